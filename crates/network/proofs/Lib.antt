@@ -1,0 +1,7 @@
+-- Laws and theorems of the definitions in specs/.
+pub mod WeightLaws
+pub mod OrderLaws
+pub mod RowLaws
+pub mod Scanning
+pub mod Checking
+pub mod TransferScan
