@@ -46,5 +46,5 @@ module _ {P : ℕ → Type 0} {start n r : ℕ} (s : Scanned P start n r) where
   pub scanned-lowest : r < n → Lowest P start n r
   scanned-lowest l = record { from-start = s .from-start; below = l; broken = s .broken l; before-fine = s .before-fine }
 
-  pub scanned-kept : n ≤ r → (p : ℕ) → Lowest P start n p → ⊥
-  scanned-kept l p w = w .broken (s .before-fine p (w .from-start) (omega (arith, w .below)))
+  pub scanned-kept : n ≤ r → (i : ℕ) → start ≤ i → i < n → P i
+  scanned-kept l i a b = s .before-fine i a (omega arith)

@@ -2,9 +2,9 @@
 ghost use Rattle.network.specs.Answers.{Decides};
 ghost use Rattle.network.specs.Network.{network, edges, EdgeFine};
 ghost use Rattle.network.specs.Steps.{Scanned};
-use crate::columns::at8;
-use crate::columns::at16;
-use crate::columns::node_at;
+use columns::at8;
+use columns::at16;
+use columns::node_at;
 
 // Whether the edge e keeps its rule.
 fn edge_fine(

@@ -1,7 +1,6 @@
 // The lowest layer: weights, the network's rules, and what a row costs. Document 01's words stand in specs/.
 pub mod answer;
 pub mod check;
-pub mod columns;
 mod edges;
 mod nodes;
 pub mod order;

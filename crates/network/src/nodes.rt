@@ -4,8 +4,8 @@ ghost use Prim.Native.Nat.{_<_};
 ghost use Rattle.network.specs.Answers.{Decides};
 ghost use Rattle.network.specs.Network.{network, nodes, NodeFine};
 ghost use Rattle.network.specs.Steps.{Scanned};
-use crate::columns::at8;
-use crate::columns::at16;
+use columns::at8;
+use columns::at16;
 
 // Whether the node v keeps its rule. Every u16 is a rank: it is read for that alone, and the compiler drops the read.
 fn node_fine(

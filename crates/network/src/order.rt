@@ -1,7 +1,7 @@
 // The order of contraction.
 ghost use Rattle.network.specs.Answers.{Decides};
 ghost use Rattle.network.specs.Order.{Before};
-use crate::columns::at16;
+use columns::at16;
 
 // The rank of a node that is never contracted.
 pub const CORE: u16 = 65535;

@@ -4,10 +4,10 @@ ghost use mathlib.Core.List.{[]};
 ghost use Rattle.network.specs.Answers.{row-read};
 ghost use Rattle.network.specs.Network.{network};
 ghost use Rattle.network.specs.Rows.{columns, cost, edge-row, shortcut};
-use crate::columns::at8;
-use crate::columns::at16;
-use crate::columns::at32;
 use crate::weight::Weight;
+use columns::at8;
+use columns::at16;
+use columns::at32;
 
 pub struct Row {
     pub tail: u16,

@@ -6,11 +6,11 @@ ghost use Rattle.network.specs.Rows.{columns, table, rows, Even, RowsSiz
 ghost use Rattle.network.specs.Steps.{Scanned};
 ghost use Prim.Native.Nat.{_≤_};
 use crate::answer::Answer;
-use crate::columns::at16;
 use crate::order::CORE;
 use crate::order::contracted_before;
 use crate::rows::Row;
 use crate::rows::row_at;
+use columns::at16;
 
 // Whether there are few enough rows, in columns that agree in length.
 fn rows_sized(

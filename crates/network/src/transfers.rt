@@ -1,10 +1,10 @@
 // The rule of the transfer nodes, in one pass over the edges.
 ghost use Rattle.network.specs.Network.{network, nodes, TransferFine};
 ghost use Rattle.network.specs.Steps.{Lowered, LinkSeen, Scanned};
-use crate::columns::at8;
-use crate::columns::at16;
-use crate::columns::node_at;
 use crate::order::CORE;
+use columns::at8;
+use columns::at16;
+use columns::node_at;
 
 // The lower of `low` and the node v, v counting only where it is not core.
 fn lower_unless_core(node_ranks: &[u16], v: usize, low: usize) -> usize

@@ -6,54 +6,37 @@ use Rattle.network.proofs.Scanning.{scanned-lowest, scanned-kept}
 use borrow.Author.Needs.{needs}
 use Rattle.network.proofs.check.check_entries.Statement.{statement}
 use Rattle.network.proofs.check.check_entries.Tie as tie
-use Rattle.network.proofs.check.check_entries.Reads as reads
-use Rattle.network.proofs.check.check_entries.Lts as lts
-use Rattle.network.proofs.answer.Answer.show.Reads as show-reads
-use Rattle.network.proofs.edges.first_bad_edge.Reads as first-bad-edge-reads
-use Rattle.network.proofs.nodes.first_bad_node.Reads as first-bad-node-reads
-use Rattle.network.proofs.transfers.first_bad_transfer.Reads as first-bad-transfer-reads
 
--- src/check.rt:56:9
 first-bad-node-requires : tie.Need-first-bad-node-requires
 first-bad-node-requires c κs = search needs
 
--- src/check.rt:58:9
 show-requires : tie.Need-show-requires
 show-requires c κs = search needs
 
--- src/check.rt:58:9
 returns : tie.Need-returns
 returns c = refuses (c .show .ensures) (inl (refl, scanned-lowest (c .before .before .first-bad-node .ensures) (c .before .if1 .taken)))
 
--- src/check.rt:60:9
 first-bad-edge-requires : tie.Need-first-bad-edge-requires
 first-bad-edge-requires c κs = search needs
 
--- src/check.rt:62:9
 show-requires-2 : tie.Need-show-requires-2
 show-requires-2 c κs = search needs
 
--- src/check.rt:62:9
 returns-2 : tie.Need-returns-2
 returns-2 c = refuses (c .show2 .ensures) (inr (scanned-kept (c .before .before .before .before .first-bad-node .ensures) (c .before .before .before .if1 .left), inl (refl, scanned-lowest (c .before .before .first-bad-edge .ensures) (c .before .if2 .taken))))
 
--- src/check.rt:64:9
 first-bad-transfer-requires : tie.Need-first-bad-transfer-requires
 first-bad-transfer-requires c κs = search needs
 
--- src/check.rt:66:9
 show-requires-3 : tie.Need-show-requires-3
 show-requires-3 c κs = search needs
 
--- src/check.rt:66:9
 returns-3 : tie.Need-returns-3
 returns-3 c = refuses (c .show3 .ensures) (inr (scanned-kept (c .before .before .before .before .before .before .first-bad-node .ensures) (c .before .before .before .before .before .if1 .left), inr (scanned-kept (c .before .before .before .before .first-bad-edge .ensures) (c .before .before .before .if2 .left), inl (refl, scanned-lowest (c .before .before .first-bad-transfer .ensures) (c .before .if3 .taken)))))
 
--- src/check.rt:68:5
 show-requires-4 : tie.Need-show-requires-4
 show-requires-4 c κs = search needs
 
--- src/check.rt:46:1
 returns-4 : tie.Need-returns-4
 returns-4 c = accepts (c .show4 .ensures) (scanned-kept (c .before .before .before .before .before .before .first-bad-node .ensures) (c .before .before .before .before .before .if1 .left), (scanned-kept (c .before .before .before .before .first-bad-edge .ensures) (c .before .before .before .if2 .left), (scanned-kept (c .before .before .first-bad-transfer .ensures) (c .before .if3 .left), tt)))
 

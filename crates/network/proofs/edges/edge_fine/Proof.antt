@@ -3,69 +3,49 @@ use native.Mathlib.Omega.{arith}
 use borrow.Author.Needs.{needs}
 use Rattle.network.proofs.edges.edge_fine.Statement.{statement}
 use Rattle.network.proofs.edges.edge_fine.Tie as tie
-use Rattle.network.proofs.edges.edge_fine.Reads as reads
-use Rattle.network.proofs.edges.edge_fine.Lts as lts
-use Rattle.network.proofs.columns.at16.Reads as at16-reads
-use Rattle.network.proofs.columns.at8.Reads as at8-reads
-use Rattle.network.proofs.columns.node_at.Reads as node-at-reads
 
--- src/edges.rt:19:9
 node-at-requires : tie.Need-node-at-requires
 node-at-requires c κs = search needs
 
--- src/edges.rt:20:9
 node-at-requires-2 : tie.Need-node-at-requires-2
 node-at-requires-2 c κs = search needs
 
--- src/edges.rt:21:9
 at8-requires : tie.Need-at8-requires
 at8-requires c κs = search needs
 
--- src/edges.rt:22:9
 at16-requires : tie.Need-at16-requires
 at16-requires c κs = search needs
 
--- src/edges.rt:24:9
 returns : tie.Need-returns
 returns c = search needs
 
--- src/edges.rt:27:9
 returns-2 : tie.Need-returns-2
 returns-2 c = search needs
 
--- src/edges.rt:30:9
 returns-3 : tie.Need-returns-3
 returns-3 c = search needs
 
--- src/edges.rt:33:9
 returns-4 : tie.Need-returns-4
 returns-4 c = search needs
 
--- src/edges.rt:37:9
 returns-5 : tie.Need-returns-5
 returns-5 c = search needs
 
--- src/edges.rt:40:9
 returns-6 : tie.Need-returns-6
 returns-6 c = search needs
 
--- src/edges.rt:42:8
 at8-requires-2 : tie.Need-at8-requires-2
 at8-requires-2 c κs = search needs
 
--- src/edges.rt:43:9
 returns-7 : tie.Need-returns-7
 returns-7 c = λ f. omega (arith, f .tail-mode (λ z. omega arith), rw (c .before .before .before .before .before .before .before .before .before .before .before .node-at .ensures .0) at (c .before .at82 .ensures))
 
--- src/edges.rt:45:8
 at8-requires-3 : tie.Need-at8-requires-3
 at8-requires-3 c κs = search needs
 
--- src/edges.rt:46:9
 returns-8 : tie.Need-returns-8
 returns-8 c = λ f. omega (arith, f .head-mode (λ z. omega arith), rw (c .before .before .before .before .before .before .before .before .before .before .before .before .node-at2 .ensures .0) at (c .before .at83 .ensures))
 
--- src/edges.rt:8:1
 returns-9 : tie.Need-returns-9
 returns-9 c = record {
   tail-node = omega arith;

@@ -6,9 +6,6 @@ use Rattle.network.specs.Network.{network, EdgeFine}
 use Rattle.network.proofs.Scanning.{Scanning, scan-start, scan-more, scan-stop, scan-done}
 use Rattle.network.proofs.edges.first_bad_edge.Statement.{statement}
 use Rattle.network.proofs.edges.first_bad_edge.Tie as tie
-use Rattle.network.proofs.edges.first_bad_edge.Reads as reads
-use Rattle.network.proofs.edges.first_bad_edge.Lts as lts
-use Rattle.network.proofs.edges.edge_fine.Reads as edge-fine-reads
 
 abbrev Inv-loop : tie.InvT-loop
 Inv-loop node-modes node-ranks tails heads modes lengths e₀ e =
@@ -17,31 +14,24 @@ Inv-loop node-modes node-ranks tails heads modes lengths e₀ e =
 abbrev μ-loop : tie.MeasureT-loop
 μ-loop node-modes node-ranks tails heads modes lengths e₀ e = length tails - e
 
--- src/edges.rt:63:5
 loop-holds : tie.Need-loop-holds Inv-loop μ-loop
 loop-holds c = scan-start (omega arith)
 
--- src/edges.rt:64:12
 edge-fine-requires : tie.Need-edge-fine-requires Inv-loop μ-loop
 edge-fine-requires c κs = tt
 
--- src/edges.rt:65:13
 add-e : tie.Need-add-e Inv-loop μ-loop
 add-e c = omega arith
 
--- src/edges.rt:63:5
 loop-less : tie.Need-loop-less Inv-loop μ-loop
 loop-less c = omega arith
 
--- src/edges.rt:63:5
 loop-again : tie.Need-loop-again Inv-loop μ-loop
 loop-again c = search scan-more
 
--- src/edges.rt:67:13
 returns : tie.Need-returns Inv-loop μ-loop
 returns c = search scan-stop
 
--- src/edges.rt:52:1
 returns-2 : tie.Need-returns-2 Inv-loop μ-loop
 returns-2 c = search scan-done
 

@@ -6,9 +6,6 @@ use Rattle.network.specs.Network.{network, NodeFine}
 use Rattle.network.proofs.Scanning.{Scanning, scan-start, scan-more, scan-stop, scan-done}
 use Rattle.network.proofs.nodes.first_bad_node.Statement.{statement}
 use Rattle.network.proofs.nodes.first_bad_node.Tie as tie
-use Rattle.network.proofs.nodes.first_bad_node.Reads as reads
-use Rattle.network.proofs.nodes.first_bad_node.Lts as lts
-use Rattle.network.proofs.nodes.node_fine.Reads as node-fine-reads
 
 abbrev Inv-loop : tie.InvT-loop
 Inv-loop node-modes node-ranks tails heads modes lengths v₀ v =
@@ -17,31 +14,24 @@ Inv-loop node-modes node-ranks tails heads modes lengths v₀ v =
 abbrev μ-loop : tie.MeasureT-loop
 μ-loop node-modes node-ranks tails heads modes lengths v₀ v = length node-modes - v
 
--- src/nodes.rt:44:5
 loop-holds : tie.Need-loop-holds Inv-loop μ-loop
 loop-holds c = scan-start (omega arith)
 
--- src/nodes.rt:45:12
 node-fine-requires : tie.Need-node-fine-requires Inv-loop μ-loop
 node-fine-requires c κs = tt
 
--- src/nodes.rt:46:13
 add-v : tie.Need-add-v Inv-loop μ-loop
 add-v c = omega arith
 
--- src/nodes.rt:44:5
 loop-less : tie.Need-loop-less Inv-loop μ-loop
 loop-less c = omega arith
 
--- src/nodes.rt:44:5
 loop-again : tie.Need-loop-again Inv-loop μ-loop
 loop-again c = search scan-more
 
--- src/nodes.rt:48:13
 returns : tie.Need-returns Inv-loop μ-loop
 returns c = search scan-stop
 
--- src/nodes.rt:33:1
 returns-2 : tie.Need-returns-2 Inv-loop μ-loop
 returns-2 c = search scan-done
 

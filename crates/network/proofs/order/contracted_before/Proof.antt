@@ -5,35 +5,25 @@ use Rattle.network.proofs.OrderLaws.{not-before}
 use borrow.Author.Needs.{needs}
 use Rattle.network.proofs.order.contracted_before.Statement.{statement}
 use Rattle.network.proofs.order.contracted_before.Tie as tie
-use Rattle.network.proofs.order.contracted_before.Reads as reads
-use Rattle.network.proofs.order.contracted_before.Lts as lts
-use Rattle.network.proofs.columns.at16.Reads as at16-reads
 
--- src/order.rt:13:9
 at16-requires : tie.Need-at16-requires
 at16-requires c κs = search needs
 
--- src/order.rt:14:9
 at16-requires-2 : tie.Need-at16-requires-2
 at16-requires-2 c κs = search needs
 
--- src/order.rt:16:9
 returns : tie.Need-returns
 returns c = lower-rank (omega arith)
 
--- src/order.rt:19:9
 returns-2 : tie.Need-returns-2
 returns-2 c = not-before (omega arith) (λ e n. absurd (omega arith))
 
--- src/order.rt:22:9
 returns-3 : tie.Need-returns-3
 returns-3 c = not-before (omega arith) (λ e n. absurd (n (omega arith)))
 
--- src/order.rt:25:9
 returns-4 : tie.Need-returns-4
 returns-4 c = same-rank (omega arith) (λ h. omega arith) (omega arith)
 
--- src/order.rt:10:1
 returns-5 : tie.Need-returns-5
 returns-5 c = not-before (omega arith) (λ e n. omega arith)
 

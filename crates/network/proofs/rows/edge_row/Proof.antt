@@ -4,32 +4,22 @@ use Rattle.network.proofs.RowLaws.{row-≡}
 use borrow.Author.Needs.{needs}
 use Rattle.network.proofs.rows.edge_row.Statement.{statement}
 use Rattle.network.proofs.rows.edge_row.Tie as tie
-use Rattle.network.proofs.rows.edge_row.Reads as reads
-use Rattle.network.proofs.rows.edge_row.Lts as lts
-use Rattle.network.proofs.columns.at16.Reads as at16-reads
-use Rattle.network.proofs.columns.at8.Reads as at8-reads
 
--- src/rows.rt:37:15
 at16-requires : tie.Need-at16-requires
 at16-requires c κs = search needs
 
--- src/rows.rt:38:15
 at16-requires-2 : tie.Need-at16-requires-2
 at16-requires-2 c κs = search needs
 
--- src/rows.rt:39:15
 at8-requires : tie.Need-at8-requires
 at8-requires c κs = search needs
 
--- src/rows.rt:40:17
 at16-requires-3 : tie.Need-at16-requires-3
 at16-requires-3 c κs = search needs
 
--- src/rows.rt:40:17
 cast-t10 : tie.Need-cast-t10
 cast-t10 c = search needs
 
--- src/rows.rt:33:1
 returns : tie.Need-returns
 returns c = row-≡ (c .before .before .before .at16 .ensures) (c .before .before .at162 .ensures) (c .before .at8 .ensures) (c .at163 .ensures) refl refl refl
 

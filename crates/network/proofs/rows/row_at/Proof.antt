@@ -3,28 +3,19 @@ use borrow.Author.Tests.{lt-ltb, le-ltb}
 use borrow.Author.Needs.{needs}
 use Rattle.network.proofs.rows.row_at.Statement.{statement}
 use Rattle.network.proofs.rows.row_at.Tie as tie
-use Rattle.network.proofs.rows.row_at.Reads as reads
-use Rattle.network.proofs.rows.row_at.Lts as lts
-use Rattle.network.proofs.rows.edge_row.Reads as edge-row-reads
-use Rattle.network.proofs.rows.shortcut_row.Reads as shortcut-row-reads
 
--- src/rows.rt:89:9
 edge-row-requires : tie.Need-edge-row-requires
 edge-row-requires c κs = search needs
 
--- src/rows.rt:89:9
 returns : tie.Need-returns
 returns c = simp (lt-ltb _ _ (c .before .if1 .taken)) (c .edge-row .ensures)
 
--- src/rows.rt:91:13
 sub-i : tie.Need-sub-i
 sub-i c = search needs
 
--- src/rows.rt:92:5
 shortcut-row-requires : tie.Need-shortcut-row-requires
 shortcut-row-requires c κs = search needs
 
--- src/rows.rt:72:1
 returns-2 : tie.Need-returns-2
 returns-2 c = simp (le-ltb _ _ (c .before .if1 .left)) (c .shortcut-row .ensures)
 

@@ -3,41 +3,28 @@ use Rattle.network.proofs.RowLaws.{row-≡}
 use borrow.Author.Needs.{needs}
 use Rattle.network.proofs.rows.shortcut_row.Statement.{statement}
 use Rattle.network.proofs.rows.shortcut_row.Tie as tie
-use Rattle.network.proofs.rows.shortcut_row.Reads as reads
-use Rattle.network.proofs.rows.shortcut_row.Lts as lts
-use Rattle.network.proofs.columns.at16.Reads as at16-reads
-use Rattle.network.proofs.columns.at32.Reads as at32-reads
-use Rattle.network.proofs.columns.at8.Reads as at8-reads
 
--- src/rows.rt:61:15
 at16-requires : tie.Need-at16-requires
 at16-requires c κs = search needs
 
--- src/rows.rt:62:15
 at16-requires-2 : tie.Need-at16-requires-2
 at16-requires-2 c κs = search needs
 
--- src/rows.rt:63:15
 at8-requires : tie.Need-at8-requires
 at8-requires c κs = search needs
 
--- src/rows.rt:64:17
 at32-requires : tie.Need-at32-requires
 at32-requires c κs = search needs
 
--- src/rows.rt:65:16
 at16-requires-3 : tie.Need-at16-requires-3
 at16-requires-3 c κs = search needs
 
--- src/rows.rt:66:16
 at16-requires-4 : tie.Need-at16-requires-4
 at16-requires-4 c κs = search needs
 
--- src/rows.rt:67:17
 at16-requires-5 : tie.Need-at16-requires-5
 at16-requires-5 c κs = search needs
 
--- src/rows.rt:48:1
 returns : tie.Need-returns
 returns c = row-≡
     (c .before .before .before .before .before .before .at16 .ensures)

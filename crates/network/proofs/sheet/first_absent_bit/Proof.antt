@@ -7,18 +7,13 @@ use Prim.Native.Nat.{_*_, _^_, _<_}
 use borrow.Author.Needs.{needs}
 use Rattle.network.proofs.sheet.first_absent_bit.Statement.{statement}
 use Rattle.network.proofs.sheet.first_absent_bit.Tie as tie
-use Rattle.network.proofs.sheet.first_absent_bit.Reads as reads
-use Rattle.network.proofs.sheet.first_absent_bit.Lts as lts
 
--- src/sheet.rt:24:10
 cast-result : tie.Need-cast-result
 cast-result c = search needs
 
--- src/sheet.rt:24:5
 shl-result : tie.Need-shl-result
 shl-result c = search needs
 
--- src/sheet.rt:20:1
 returns : tie.Need-returns
 returns c =
     let few : 1 * 2 ^ c .args .states < 65536 = omega (arith, pow-mono (c .pre)) in

@@ -5,9 +5,6 @@ use Rattle.network.specs.Sheet.{sheet-of, StateFine}
 use Rattle.network.proofs.Scanning.{Scanning, scan-start, scan-more, scan-stop, scan-done}
 use Rattle.network.proofs.sheet.first_bad_state.Statement.{statement}
 use Rattle.network.proofs.sheet.first_bad_state.Tie as tie
-use Rattle.network.proofs.sheet.first_bad_state.Reads as reads
-use Rattle.network.proofs.sheet.first_bad_state.Lts as lts
-use Rattle.network.proofs.sheet.state_fine.Reads as state-fine-reads
 
 abbrev Inv-loop : tie.InvT-loop
 Inv-loop sheet states q₀ q = Scanning (StateFine (sheet-of sheet states)) 0 states q
@@ -15,31 +12,24 @@ Inv-loop sheet states q₀ q = Scanning (StateFine (sheet-of sheet states)) 0 st
 abbrev μ-loop : tie.MeasureT-loop
 μ-loop sheet states q₀ q = states - q
 
--- src/sheet.rt:51:5
 loop-holds : tie.Need-loop-holds Inv-loop μ-loop
 loop-holds c = scan-start (omega arith)
 
--- src/sheet.rt:52:12
 state-fine-requires : tie.Need-state-fine-requires Inv-loop μ-loop
 state-fine-requires c κs = (omega arith, omega arith)
 
--- src/sheet.rt:53:13
 add-q : tie.Need-add-q Inv-loop μ-loop
 add-q c = omega arith
 
--- src/sheet.rt:51:5
 loop-less : tie.Need-loop-less Inv-loop μ-loop
 loop-less c = omega arith
 
--- src/sheet.rt:51:5
 loop-again : tie.Need-loop-again Inv-loop μ-loop
 loop-again c = search scan-more
 
--- src/sheet.rt:55:13
 returns : tie.Need-returns Inv-loop μ-loop
 returns c = search scan-stop
 
--- src/sheet.rt:46:1
 returns-2 : tie.Need-returns-2 Inv-loop μ-loop
 returns-2 c = search scan-done
 

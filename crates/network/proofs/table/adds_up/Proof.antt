@@ -6,55 +6,39 @@ use Rattle.network.proofs.Scanning.{decided-true, decided-false}
 use borrow.Author.Needs.{needs}
 use Rattle.network.proofs.table.adds_up.Statement.{statement}
 use Rattle.network.proofs.table.adds_up.Tie as tie
-use Rattle.network.proofs.table.adds_up.Reads as reads
-use Rattle.network.proofs.table.adds_up.Lts as lts
-use Rattle.network.proofs.rows.Row.cost.Reads as cost-reads
-use Rattle.network.proofs.weight.Weight.lighter.Reads as lighter-reads
-use Rattle.network.proofs.weight.Weight.plus.Reads as plus-reads
 
--- src/table.rt:109:9
 returns : tie.Need-returns
 returns c = search needs
 
--- src/table.rt:112:9
 returns-2 : tie.Need-returns-2
 returns-2 c = search needs
 
--- src/table.rt:114:9
 cost-requires : tie.Need-cost-requires
 cost-requires c κs = search needs
 
--- src/table.rt:115:15
 cost-requires-2 : tie.Need-cost-requires-2
 cost-requires-2 c κs = search needs
 
--- src/table.rt:115:29
 cost-requires-3 : tie.Need-cost-requires-3
 cost-requires-3 c κs = search needs
 
--- src/table.rt:115:9
 plus-requires : tie.Need-plus-requires
 plus-requires c κs = search needs
 
--- src/table.rt:116:8
 lighter-requires : tie.Need-lighter-requires
 lighter-requires c κs = search needs
 
--- src/table.rt:117:9
 returns-3 : tie.Need-returns-3
 unfolding _⊕_
 returns-3 c = λ s. own-lighter (c .before .before .before .before .before .before .before .before .before .before .args .x) (c .before .before .before .before .before .before .before .before .before .before .args .a) (c .before .before .before .before .before .before .before .before .before .before .args .b) (c .before .before .before .before .before .cost .ensures) (c .before .before .before .before .cost2 .ensures) (c .before .before .before .cost3 .ensures) (c .before .before .plus .ensures) record { time-held = omega (arith, c .before .before .before .before .before .before .before .before .before .before .good); edges-held = omega (arith, c .before .before .before .before .before .before .before .before .before .before .good) } (decided-true (c .before .lighter .ensures) (c .if3 .taken)) (s .sums)
 
--- src/table.rt:119:8
 lighter-requires-2 : tie.Need-lighter-requires-2
 lighter-requires-2 c κs = search needs
 
--- src/table.rt:120:9
 returns-4 : tie.Need-returns-4
 unfolding _⊕_
 returns-4 c = λ s. own-heavier (c .before .before .before .before .before .before .before .before .before .before .before .before .args .x) (c .before .before .before .before .before .before .before .before .before .before .before .before .args .a) (c .before .before .before .before .before .before .before .before .before .before .before .before .args .b) (c .before .before .before .before .before .before .before .cost .ensures) (c .before .before .before .before .before .before .cost2 .ensures) (c .before .before .before .before .before .cost3 .ensures) (c .before .before .before .before .plus .ensures) record { time-held = omega (arith, c .before .before .before .before .before .before .before .before .before .before .before .before .good); edges-held = omega (arith, c .before .before .before .before .before .before .before .before .before .before .before .before .good) } (decided-true (c .before .lighter2 .ensures) (c .if4 .taken)) (s .sums)
 
--- src/table.rt:105:1
 returns-5 : tie.Need-returns-5
 unfolding _⊕_
 returns-5 c = record {

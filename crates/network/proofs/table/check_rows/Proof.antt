@@ -3,51 +3,37 @@ use mathlib.Core.Path.{refl}
 use mathlib.Core.Logic.{inl}
 use native.Mathlib.Omega.{arith}
 use Rattle.network.specs.Answers.{accepts, refuses}
-use Rattle.network.proofs.Checking.{checked-behind, sizes-kept, sizes-refused}
+use Rattle.network.proofs.Checking.{checked-behind, sizes-refused}
 use Rattle.network.proofs.RowLaws.{table-length}
 use Rattle.network.proofs.Scanning.{decided-true, decided-false, scanned-lowest, scanned-kept}
 use borrow.Author.Needs.{needs}
 use Rattle.network.proofs.table.check_rows.Statement.{statement}
 use Rattle.network.proofs.table.check_rows.Tie as tie
-use Rattle.network.proofs.table.check_rows.Reads as reads
-use Rattle.network.proofs.table.check_rows.Lts as lts
-use Rattle.network.proofs.answer.Answer.show.Reads as show-reads
-use Rattle.network.proofs.table.first_bad_row.Reads as first-bad-row-reads
-use Rattle.network.proofs.table.rows_sized.Reads as rows-sized-reads
 
--- src/table.rt:224:8
 rows-sized-requires : tie.Need-rows-sized-requires
 rows-sized-requires c κs = search needs
 
--- src/table.rt:225:13
 first-bad-row-requires : tie.Need-first-bad-row-requires
 first-bad-row-requires c κs = decided-true (c .before .rows-sized .ensures) (c .if1 .taken)
 
--- src/table.rt:226:18
 add-if2 : tie.Need-add-if2
 add-if2 c = omega (arith, (decided-true (c .before .before .rows-sized .ensures) (c .before .if1 .taken)) .few-rows)
 
--- src/table.rt:227:13
 show-requires : tie.Need-show-requires
 show-requires c κs = search needs
 
--- src/table.rt:227:13
 returns : tie.Need-returns
-returns c = checked-behind (sizes-kept (decided-true (c .before .before .before .before .rows-sized .ensures) (c .before .before .before .if1 .taken))) (refuses (c .show .ensures) (inl (refl, scanned-lowest (c .before .before .first-bad-row .ensures) (rw table-length (c .before .if2 .taken)))))
+returns c = checked-behind (decided-true (c .before .before .before .before .rows-sized .ensures) (c .before .before .before .if1 .taken)) (refuses (c .show .ensures) (inl (refl, scanned-lowest (c .before .before .first-bad-row .ensures) (rw table-length (c .before .if2 .taken)))))
 
--- src/table.rt:229:9
 show-requires-2 : tie.Need-show-requires-2
 show-requires-2 c κs = search needs
 
--- src/table.rt:229:9
 returns-2 : tie.Need-returns-2
-returns-2 c = checked-behind (sizes-kept (decided-true (c .before .before .before .before .rows-sized .ensures) (c .before .before .before .if1 .taken))) (accepts (c .show2 .ensures) (scanned-kept (c .before .before .first-bad-row .ensures) (rw table-length (c .before .if2 .left)), tt))
+returns-2 c = checked-behind (decided-true (c .before .before .before .before .rows-sized .ensures) (c .before .before .before .if1 .taken)) (accepts (c .show2 .ensures) (scanned-kept (c .before .before .first-bad-row .ensures) (rw table-length (c .before .if2 .left)), tt))
 
--- src/table.rt:231:5
 show-requires-3 : tie.Need-show-requires-3
 show-requires-3 c κs = search needs
 
--- src/table.rt:207:1
 returns-3 : tie.Need-returns-3
 returns-3 c = sizes-refused (decided-false (c .before .before .rows-sized .ensures) (c .before .if1 .left)) (c .show3 .ensures)
 

@@ -8,9 +8,6 @@ use Rattle.network.proofs.RowLaws.{table-length}
 use Rattle.network.proofs.Scanning.{Scanning, scan-start, scan-more, scan-stop, scan-done}
 use Rattle.network.proofs.table.first_bad_row.Statement.{statement}
 use Rattle.network.proofs.table.first_bad_row.Tie as tie
-use Rattle.network.proofs.table.first_bad_row.Reads as reads
-use Rattle.network.proofs.table.first_bad_row.Lts as lts
-use Rattle.network.proofs.table.row_sound.Reads as row-sound-reads
 
 abbrev Inv-loop : tie.InvT-loop
 Inv-loop node-modes node-ranks tails heads modes lengths shortcut-tails shortcut-heads shortcut-modes shortcut-lengths shortcut-counts shortcut-firsts shortcut-seconds r₀ end r =
@@ -19,35 +16,27 @@ Inv-loop node-modes node-ranks tails heads modes lengths shortcut-tails shortcut
 abbrev μ-loop : tie.MeasureT-loop
 μ-loop node-modes node-ranks tails heads modes lengths shortcut-tails shortcut-heads shortcut-modes shortcut-lengths shortcut-counts shortcut-firsts shortcut-seconds r₀ end r = end - r
 
--- src/table.rt:195:15
 add-end : tie.Need-add-end Inv-loop μ-loop
 add-end c = omega (arith, c .before .before .before .before .before .before .before .before .before .before .before .before .before .pre .few-rows)
 
--- src/table.rt:196:5
 loop-holds : tie.Need-loop-holds Inv-loop μ-loop
 loop-holds c = scan-start (omega arith)
 
--- src/table.rt:197:12
 row-sound-requires : tie.Need-row-sound-requires Inv-loop μ-loop
 row-sound-requires c κs = c .before .before .before .before .before .before .before .before .before .before .before .before .before .before .before .pre .even
 
--- src/table.rt:198:13
 add-r : tie.Need-add-r Inv-loop μ-loop
 add-r c = omega arith
 
--- src/table.rt:196:5
 loop-less : tie.Need-loop-less Inv-loop μ-loop
 loop-less c = omega arith
 
--- src/table.rt:196:5
 loop-again : tie.Need-loop-again Inv-loop μ-loop
 loop-again c = search scan-more
 
--- src/table.rt:200:13
 returns : tie.Need-returns Inv-loop μ-loop
 returns c = rw table-length (search scan-stop)
 
--- src/table.rt:176:1
 returns-2 : tie.Need-returns-2 Inv-loop μ-loop
 returns-2 c = rw table-length (search scan-done)
 

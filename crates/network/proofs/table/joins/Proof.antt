@@ -3,34 +3,22 @@ use Rattle.network.proofs.Scanning.{decided-true, decided-false}
 use borrow.Author.Needs.{needs}
 use Rattle.network.proofs.table.joins.Statement.{statement}
 use Rattle.network.proofs.table.joins.Tie as tie
-use Rattle.network.proofs.table.joins.Reads as reads
-use Rattle.network.proofs.table.joins.Lts as lts
-use Rattle.network.proofs.table.adds_up.Reads as adds-up-reads
-use Rattle.network.proofs.table.ends_fit.Reads as ends-fit-reads
-use Rattle.network.proofs.table.meets_low.Reads as meets-low-reads
-use Rattle.network.proofs.table.one_mode.Reads as one-mode-reads
 
--- src/table.rt:129:8
 ends-fit-requires : tie.Need-ends-fit-requires
 ends-fit-requires c κs = search needs
 
--- src/table.rt:130:12
 one-mode-requires : tie.Need-one-mode-requires
 one-mode-requires c κs = search needs
 
--- src/table.rt:131:16
 adds-up-requires : tie.Need-adds-up-requires
 adds-up-requires c κs = search needs
 
--- src/table.rt:132:42
 cast-meets-low : tie.Need-cast-meets-low
 cast-meets-low c = search needs
 
--- src/table.rt:132:20
 meets-low-requires : tie.Need-meets-low-requires
 meets-low-requires c κs = search needs
 
--- src/table.rt:133:21
 returns : tie.Need-returns
 returns c = record {
   ends-fit = decided-true (c .before .before .before .before .before .before .before .before .ends-fit .ensures) (c .before .before .before .before .before .before .before .if1 .taken);
@@ -39,19 +27,15 @@ returns c = record {
   meets-low = decided-true (c .before .meets-low .ensures) (c .if4 .taken);
 }
 
--- src/table.rt:126:1
 returns-2 : tie.Need-returns-2
 returns-2 c = λ j. decided-false (c .before .meets-low .ensures) (c .if4 .left) (j .meets-low)
 
--- src/table.rt:126:1
 returns-3 : tie.Need-returns-3
 returns-3 c = λ j. decided-false (c .before .adds-up .ensures) (c .if3 .left) (j .adds-up)
 
--- src/table.rt:126:1
 returns-4 : tie.Need-returns-4
 returns-4 c = λ j. decided-false (c .before .one-mode .ensures) (c .if2 .left) (j .one-mode)
 
--- src/table.rt:126:1
 returns-5 : tie.Need-returns-5
 returns-5 c = λ j. decided-false (c .before .ends-fit .ensures) (c .if1 .left) (j .ends-fit)
 

@@ -4,44 +4,31 @@ use Rattle.network.proofs.Scanning.{decided-true, decided-false}
 use borrow.Author.Needs.{needs}
 use Rattle.network.proofs.table.meets_low.Statement.{statement}
 use Rattle.network.proofs.table.meets_low.Tie as tie
-use Rattle.network.proofs.table.meets_low.Reads as reads
-use Rattle.network.proofs.table.meets_low.Lts as lts
-use Rattle.network.proofs.columns.at16.Reads as at16-reads
-use Rattle.network.proofs.order.contracted_before.Reads as contracted-before-reads
 
--- src/table.rt:81:8
 at16-requires : tie.Need-at16-requires
 at16-requires c κs = search needs
 
--- src/table.rt:82:9
 returns : tie.Need-returns
 returns c = search needs
 
--- src/table.rt:84:47
 cast-contracted-before : tie.Need-cast-contracted-before
 cast-contracted-before c = search needs
 
--- src/table.rt:84:8
 contracted-before-requires : tie.Need-contracted-before-requires
 contracted-before-requires c κs = search needs
 
--- src/table.rt:85:51
 cast-contracted-before-2 : tie.Need-cast-contracted-before-2
 cast-contracted-before-2 c = search needs
 
--- src/table.rt:85:12
 contracted-before-requires-2 : tie.Need-contracted-before-requires-2
 contracted-before-requires-2 c κs = search needs
 
--- src/table.rt:86:13
 returns-2 : tie.Need-returns-2
 returns-2 c = record { not-core = λ e. omega arith; before-tail = decided-true (c .before .before .before .before .contracted-before .ensures) (c .before .before .before .if2 .taken); before-head = decided-true (c .before .contracted-before2 .ensures) (c .if3 .taken) }
 
--- src/table.rt:78:1
 returns-3 : tie.Need-returns-3
 returns-3 c = λ m. decided-false (c .before .contracted-before2 .ensures) (c .if3 .left) (m .before-head)
 
--- src/table.rt:78:1
 returns-4 : tie.Need-returns-4
 returns-4 c = λ m. decided-false (c .before .contracted-before .ensures) (c .if2 .left) (m .before-tail)
 

@@ -4,44 +4,31 @@ use native.Mathlib.Omega.{arith}
 use borrow.Author.Needs.{needs}
 use Rattle.network.proofs.table.row_sound.Statement.{statement}
 use Rattle.network.proofs.table.row_sound.Tie as tie
-use Rattle.network.proofs.table.row_sound.Reads as reads
-use Rattle.network.proofs.table.row_sound.Lts as lts
-use Rattle.network.proofs.rows.row_at.Reads as row-at-reads
-use Rattle.network.proofs.table.joins.Reads as joins-reads
 
--- src/table.rt:161:9
 row-at-requires : tie.Need-row-at-requires
 row-at-requires c κs = search needs
 
--- src/table.rt:162:17
 cast-first : tie.Need-cast-first
 cast-first c = search needs
 
--- src/table.rt:163:18
 cast-second : tie.Need-cast-second
 cast-second c = search needs
 
--- src/table.rt:165:9
 returns : tie.Need-returns
 returns c = first-not-lower _ _ (c .before .before .before .before .before .before .before .before .before .before .before .before .before .before .before .before .before .pre) _ (c .before .before .before .row-at .ensures) (c .if1 .taken)
 
--- src/table.rt:168:9
 returns-2 : tie.Need-returns-2
 returns-2 c = second-not-lower _ _ (c .before .before .before .before .before .before .before .before .before .before .before .before .before .before .before .before .before .before .pre) _ (c .before .before .before .before .row-at .ensures) (c .if2 .taken)
 
--- src/table.rt:170:9
 row-at-requires-2 : tie.Need-row-at-requires-2
 row-at-requires-2 c κs = search needs
 
--- src/table.rt:171:9
 row-at-requires-3 : tie.Need-row-at-requires-3
 row-at-requires-3 c κs = search needs
 
--- src/table.rt:172:5
 joins-requires : tie.Need-joins-requires
 joins-requires c κs = search needs
 
--- src/table.rt:142:1
 returns-3 : tie.Need-returns-3
 returns-3 c = sound-by-joins _ _ (c .before .before .before .before .before .before .before .before .before .before .before .before .before .before .before .before .before .before .before .before .before .pre) _ (c .before .before .before .before .before .before .before .row-at .ensures) (c .joins .result) (c .before .before .before .before .if1 .left) (c .before .before .before .if2 .left) (c .before .before .row-at2 .ensures) (c .before .row-at3 .ensures) (c .joins .ensures)
 

@@ -6,9 +6,6 @@ use Rattle.network.specs.Network.{network}
 use Rattle.network.proofs.TransferScan.{Passing, pass-start, pass-more, pass-done}
 use Rattle.network.proofs.transfers.first_bad_transfer.Statement.{statement}
 use Rattle.network.proofs.transfers.first_bad_transfer.Tie as tie
-use Rattle.network.proofs.transfers.first_bad_transfer.Reads as reads
-use Rattle.network.proofs.transfers.first_bad_transfer.Lts as lts
-use Rattle.network.proofs.transfers.lower_by_link.Reads as lower-by-link-reads
 
 abbrev Inv-loop : tie.InvT-loop
 Inv-loop node-modes node-ranks tails heads modes lengths low₀ e₀ low e =
@@ -17,27 +14,21 @@ Inv-loop node-modes node-ranks tails heads modes lengths low₀ e₀ low e =
 abbrev μ-loop : tie.MeasureT-loop
 μ-loop node-modes node-ranks tails heads modes lengths low₀ e₀ low e = length tails - e
 
--- src/transfers.rt:53:5
 loop-holds : tie.Need-loop-holds Inv-loop μ-loop
 loop-holds c = pass-start
 
--- src/transfers.rt:54:9
 lower-by-link-requires : tie.Need-lower-by-link-requires Inv-loop μ-loop
 lower-by-link-requires c κs = tt
 
--- src/transfers.rt:55:9
 add-e : tie.Need-add-e Inv-loop μ-loop
 add-e c = omega arith
 
--- src/transfers.rt:53:5
 loop-less : tie.Need-loop-less Inv-loop μ-loop
 loop-less c = omega arith
 
--- src/transfers.rt:53:5
 loop-again : tie.Need-loop-again Inv-loop μ-loop
 loop-again c = search pass-more
 
--- src/transfers.rt:41:1
 returns : tie.Need-returns Inv-loop μ-loop
 returns c = search pass-done
 

@@ -4,37 +4,25 @@ use Rattle.network.proofs.TransferScan.{no-link-seen, link-seen}
 use borrow.Author.Needs.{needs}
 use Rattle.network.proofs.transfers.lower_by_link.Statement.{statement}
 use Rattle.network.proofs.transfers.lower_by_link.Tie as tie
-use Rattle.network.proofs.transfers.lower_by_link.Reads as reads
-use Rattle.network.proofs.transfers.lower_by_link.Lts as lts
-use Rattle.network.proofs.columns.at8.Reads as at8-reads
-use Rattle.network.proofs.columns.node_at.Reads as node-at-reads
-use Rattle.network.proofs.transfers.lower_unless_core.Reads as lower-unless-core-reads
 
--- src/transfers.rt:33:8
 at8-requires : tie.Need-at8-requires
 at8-requires c κs = search needs
 
--- src/transfers.rt:34:9
 returns : tie.Need-returns
 returns c = no-link-seen (λ z. omega arith)
 
--- src/transfers.rt:36:49
 node-at-requires : tie.Need-node-at-requires
 node-at-requires c κs = search needs
 
--- src/transfers.rt:36:9
 lower-unless-core-requires : tie.Need-lower-unless-core-requires
 lower-unless-core-requires c κs = search needs
 
--- src/transfers.rt:37:35
 node-at-requires-2 : tie.Need-node-at-requires-2
 node-at-requires-2 c κs = search needs
 
--- src/transfers.rt:37:5
 lower-unless-core-requires-2 : tie.Need-lower-unless-core-requires-2
 lower-unless-core-requires-2 c κs = search needs
 
--- src/transfers.rt:21:1
 returns-2 : tie.Need-returns-2
 returns-2 c = link-seen (omega arith) (c .before .before .before .node-at .ensures .0) (c .before .node-at2 .ensures .0) (c .before .before .lower-unless-core .ensures) (c .lower-unless-core2 .ensures)
 

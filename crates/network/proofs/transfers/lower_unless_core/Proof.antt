@@ -5,23 +5,16 @@ use Rattle.network.specs.Steps.{same, lower}
 use borrow.Author.Needs.{needs}
 use Rattle.network.proofs.transfers.lower_unless_core.Statement.{statement}
 use Rattle.network.proofs.transfers.lower_unless_core.Tie as tie
-use Rattle.network.proofs.transfers.lower_unless_core.Reads as reads
-use Rattle.network.proofs.transfers.lower_unless_core.Lts as lts
-use Rattle.network.proofs.columns.at16.Reads as at16-reads
 
--- src/transfers.rt:12:9
 returns : tie.Need-returns
 returns c = same refl (λ l. absurd (omega arith))
 
--- src/transfers.rt:14:8
 at16-requires : tie.Need-at16-requires
 at16-requires c κs = search needs
 
--- src/transfers.rt:15:9
 returns-2 : tie.Need-returns-2
 returns-2 c = same refl (λ l. omega arith)
 
--- src/transfers.rt:8:1
 returns-3 : tie.Need-returns-3
 returns-3 c = lower refl (omega arith) (λ h. omega arith)
 

@@ -4,22 +4,16 @@ use Rattle.network.specs.Weight.{sooner, shorter}
 use Rattle.network.proofs.WeightLaws.{not-lighter}
 use Rattle.network.proofs.weight.Weight.lighter.Statement.{statement}
 use Rattle.network.proofs.weight.Weight.lighter.Tie as tie
-use Rattle.network.proofs.weight.Weight.lighter.Reads as reads
-use Rattle.network.proofs.weight.Weight.lighter.Lts as lts
 
--- src/weight.rt:41:13
 returns : tie.Need-returns
 returns c = sooner (omega arith)
 
--- src/weight.rt:44:13
 returns-2 : tie.Need-returns-2
 returns-2 c = not-lighter (omega arith) (λ e. absurd (omega arith))
 
--- src/weight.rt:47:13
 returns-3 : tie.Need-returns-3
 returns-3 c = shorter (omega arith) (omega arith)
 
--- src/weight.rt:37:5
 returns-4 : tie.Need-returns-4
 returns-4 c = not-lighter (omega arith) (λ e. omega arith)
 

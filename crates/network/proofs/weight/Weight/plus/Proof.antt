@@ -5,36 +5,27 @@ use borrow.Author.Needs.{needs}
 use Rattle.network.specs.Weight.{_⊕_, whole, too-large}
 use Rattle.network.proofs.weight.Weight.plus.Statement.{statement}
 use Rattle.network.proofs.weight.Weight.plus.Tie as tie
-use Rattle.network.proofs.weight.Weight.plus.Reads as reads
-use Rattle.network.proofs.weight.Weight.plus.Lts as lts
 
--- src/weight.rt:24:12
 sub-if1 : tie.Need-sub-if1
 sub-if1 c = search needs
 
--- src/weight.rt:25:13
 returns : tie.Need-returns
 unfolding _⊕_
 returns c = too-large (λ h. omega arith) refl
 
--- src/weight.rt:27:12
 sub-if2 : tie.Need-sub-if2
 sub-if2 c = search needs
 
--- src/weight.rt:28:13
 returns-2 : tie.Need-returns-2
 unfolding _⊕_
 returns-2 c = too-large (λ h. omega arith) refl
 
--- src/weight.rt:31:19
 add-t4 : tie.Need-add-t4
 add-t4 c = search needs
 
--- src/weight.rt:32:20
 add-t6 : tie.Need-add-t6
 add-t6 c = search needs
 
--- src/weight.rt:21:5
 returns-3 : tie.Need-returns-3
 unfolding _⊕_
 returns-3 c = whole record { time-held = omega arith; edges-held = omega arith } refl

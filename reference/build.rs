@@ -1,0 +1,25 @@
+//! Links the proved library, and only when the feature `linked` asks for it.
+
+use std::env;
+
+fn main() {
+    println!("cargo:rerun-if-changed=build.rs");
+    println!("cargo:rerun-if-env-changed=JOURNEYS_LIB");
+    if env::var_os("CARGO_FEATURE_LINKED").is_none() {
+        return;
+    }
+    match env::var("JOURNEYS_LIB") {
+        Ok(folder) => {
+            println!("cargo:rerun-if-changed={folder}/libexports.a");
+            println!("cargo:rustc-link-search=native={folder}");
+            println!("cargo:rustc-link-lib=static=exports");
+            // A library without std brings a panic handler of its own, and so
+            // does std here; the linker shall keep the first and not complain.
+            println!("cargo:rustc-link-arg=-Wl,-z,muldefs");
+        }
+        Err(_) => {
+            eprintln!("feature `linked` needs JOURNEYS_LIB, the folder that holds libexports.a");
+            std::process::exit(1);
+        }
+    }
+}
