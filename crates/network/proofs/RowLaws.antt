@@ -134,6 +134,7 @@ pub record RowFine (N : Network) (ss : List Row) (r : ℕ) : Type 0 where
   pub tail-in : row N ss r .tail < nodes N
   pub head-in : row N ss r .head < nodes N
   pub apart : row N ss r .tail ≡ row N ss r .head → ⊥
+  pub known-mode : row N ss r .mode ≤ 7
   pub lasts : 1 ≤ row N ss r .length
   pub short : row N ss r .length ≤ 33488385
   pub some : 1 ≤ row N ss r .count
@@ -147,6 +148,7 @@ edge-row-fine {N} ss sound r l =
       tail-in = subst (λ (x : Row). x .tail < nodes N) (sym e) (f .tail-node);
       head-in = subst (λ (x : Row). x .head < nodes N) (sym e) (f .head-node);
       apart = subst (λ (x : Row). x .tail ≡ x .head → ⊥) (sym e) (f .apart);
+      known-mode = subst (λ (x : Row). x .mode ≤ 7) (sym e) (f .known-mode);
       lasts = subst (λ (x : Row). 1 ≤ x .length) (sym e) (f .lasts);
       short = subst (λ (x : Row). x .length ≤ 33488385) (sym e) (omega (arith, f .short));
       some = subst (λ (x : Row). 1 ≤ x .count) (sym e) (omega arith);
@@ -163,6 +165,7 @@ module _ {N : Network} {ss : List Row} (sound : Sound N) (table : SoundTable N s
         tail-in = subst (λ (x : ℕ). x < nodes N) (j .ends-fit .starts) (a .tail-in);
         head-in = subst (λ (x : ℕ). x < nodes N) (j .ends-fit .ends) (b .head-in);
         apart = j .ends-fit .apart;
+        known-mode = subst (λ (x : ℕ). x ≤ 7) (j .one-mode .first-mode) (a .known-mode);
         lasts = omega (arith, t, a .lasts);
         short = j .adds-up .length-bound;
         some = omega (arith, c, a .some);

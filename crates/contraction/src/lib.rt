@@ -1,0 +1,2 @@
+// Preparation, opening, and the contracted search.
+pub mod opening;

@@ -1,0 +1,21 @@
+-- The greedy theorem over any graph, and what it says of the searches.
+pub mod Deciding
+pub mod Greedy
+pub mod Relaxing
+pub mod Simple
+pub mod Places
+pub mod Searches
+pub mod Answers
+pub mod Bounds
+pub mod Run
+pub mod Decided
+pub mod Filling
+pub mod Picking
+pub mod Offering
+pub mod HomewardLaws
+pub mod Arriving
+pub mod Starting
+pub mod Working
+pub mod Attempting
+pub mod Leaving
+pub mod SearchLoop

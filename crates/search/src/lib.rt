@@ -1,0 +1,9 @@
+// The searches: plain, over rows, and for witnesses.
+mod engine;
+mod homeward;
+mod labels;
+mod leave;
+mod legs;
+mod moves;
+mod pick;
+mod rooms;
