@@ -19,3 +19,6 @@ pub mod Working
 pub mod Attempting
 pub mod Leaving
 pub mod SearchLoop
+pub mod LegLaws
+pub mod RefusalLaws
+pub mod SearchUnique

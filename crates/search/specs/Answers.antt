@@ -1,7 +1,7 @@
 -- What the searches answer: number, place, time, count, and every lent room (01, "Numbers the unit shows").
 use mathlib.Core.Path.{_≡_}
 use mathlib.Core.List.{List, _++_}
-use Prim.Native.Nat.{ℕ, _<_, _≤_}
+use Prim.Native.Nat.{ℕ, _-_, _*_, _<_, _≤_}
 use lib.ListN.{length, drop, replicate}
 use Rattle.network.specs.declared.answer.Answer.{Answer}
 use Rattle.network.specs.declared.weight.Weight.{Weight}
@@ -24,6 +24,10 @@ pub record Zeroed (wide wide′ narrow narrow′ : List ℕ) : Type 0 where
 -- a number with the time and count of a path
 abbrev pub told : ℕ → Weight → Answer
 told number w = record { number = number; place = 0; time = w .time; count = w .edges }
+
+-- how many legs stand written with an answer of the plain search: as many as it counts where its number is 0, else none
+abbrev pub legs-of : Answer → ℕ
+legs-of a = (1 - a .number) * a .count
 
 -- What a search over the paths of P answers where no rule is broken: with w the least weight, the rows of one such path stand at the front of the
 -- journey room, and `written` tells how many they are.

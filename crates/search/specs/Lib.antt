@@ -7,3 +7,4 @@ pub mod Graph
 pub mod Places
 pub mod Labels
 pub mod Steps
+pub mod Delivery

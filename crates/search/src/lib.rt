@@ -1,4 +1,4 @@
-// The searches: plain, over rows, and for witnesses.
+// The searches: plain, and over rows.
 mod engine;
 mod homeward;
 mod labels;
@@ -6,4 +6,8 @@ mod leave;
 mod legs;
 mod moves;
 mod pick;
+pub mod plain;
 mod rooms;
+pub mod rows;
+
+pub use legs::Told;
