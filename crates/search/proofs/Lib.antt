@@ -22,3 +22,6 @@ pub mod SearchLoop
 pub mod LegLaws
 pub mod RefusalLaws
 pub mod SearchUnique
+pub mod WitnessGraph
+pub mod WitnessLaws
+pub mod WitnessUnique

@@ -92,7 +92,7 @@ fn over(sheet: [State; 8], states: usize, places: usize, to: usize, u: usize) ->
 }
 
 // The search: the place of a target whose label is least, or past the last place.
-pub fn run(
+pub(crate) fn run(
     plain: bool,
     node_modes: &[u8],
     node_ranks: &[u16],

@@ -164,7 +164,7 @@ fn some_row_home(
 }
 
 // Whether the target can be reached from x by rows that lead down.
-pub fn homeward(
+pub(crate) fn homeward(
     plain: bool,
     node_modes: &[u8],
     node_ranks: &[u16],

@@ -9,7 +9,7 @@ use columns::put32;
 use columns::put64;
 use network::weight::Weight;
 
-pub fn label_at(wide: &[u64], narrow: &[u32], p: usize) -> Weight
+pub(crate) fn label_at(wide: &[u64], narrow: &[u32], p: usize) -> Weight
     requires { ⌜ p < 8192 ⌝ }
     ensures { λ r. ⌜ r ≡ label (now (wide .entry)) (now (narrow .entry)) p ⌝ }
 {
@@ -20,7 +20,7 @@ pub fn label_at(wide: &[u64], narrow: &[u32], p: usize) -> Weight
 }
 
 // 1 while the place waits, 0 once it is settled.
-pub fn mark_at(narrow: &[u32], p: usize) -> u32
+pub(crate) fn mark_at(narrow: &[u32], p: usize) -> u32
     requires { ⌜ p < 8192 ⌝ }
     ensures { λ r. ⌜ r ≡ mark (now (narrow .entry)) p ⌝ }
 {
@@ -28,7 +28,7 @@ pub fn mark_at(narrow: &[u32], p: usize) -> u32
 }
 
 // The row that led to the place.
-pub fn row_before(narrow: &[u32], p: usize) -> usize
+pub(crate) fn row_before(narrow: &[u32], p: usize) -> usize
     requires { ⌜ p < 8192 ⌝ }
     ensures { λ r. ⌜ r ≡ row-before (now (narrow .entry)) p ⌝ }
 {
@@ -36,7 +36,7 @@ pub fn row_before(narrow: &[u32], p: usize) -> usize
 }
 
 // State and phase of the place from which it led.
-pub fn low_before(narrow: &[u32], p: usize) -> usize
+pub(crate) fn low_before(narrow: &[u32], p: usize) -> usize
     requires { ⌜ p < 8192 ⌝ }
     ensures { λ r. ⌜ r ≡ word (now (narrow .entry)) p / 2 % 16 ⌝ }
 {
@@ -44,7 +44,7 @@ pub fn low_before(narrow: &[u32], p: usize) -> usize
 }
 
 // The place waits no longer.
-pub fn settle(narrow: &mut [u32], p: usize)
+pub(crate) fn settle(narrow: &mut [u32], p: usize)
     requires { ⌜ p < 8192 ⌝ }
     ensures { λ _. ⌜ now (narrow .exit) ≡ set (now (narrow .entry)) (2 * p + 1) (word (now (narrow .entry)) p / 2 * 2) ⌝ }
 {
@@ -53,7 +53,14 @@ pub fn settle(narrow: &mut [u32], p: usize)
 }
 
 // A new label for the place p: by row r, from a place of this state and phase.
-pub fn improve(wide: &mut [u64], narrow: &mut [u32], p: usize, w: Weight, r: usize, low: usize)
+pub(crate) fn improve(
+    wide: &mut [u64],
+    narrow: &mut [u32],
+    p: usize,
+    w: Weight,
+    r: usize,
+    low: usize,
+)
     requires { ⌜ (p < 8192) × (r < 4096) × (low < 16) ⌝ }
     ensures { λ _. ⌜ now (wide .exit) ≡ set (now (wide .entry)) p (w .time) ⌝ }
     ensures { λ _. ⌜ now (narrow .exit) ≡ set (set (now (narrow .entry)) (2 * p) (w .edges)) (2 * p + 1) (word-by (word (now (narrow .entry)) p) r low) ⌝ }

@@ -184,7 +184,7 @@ fn try_rows(
 }
 
 // Settles the place p and tries every row from it.
-pub fn leave(
+pub(crate) fn leave(
     plain: bool,
     node_modes: &[u8],
     node_ranks: &[u16],

@@ -161,7 +161,7 @@ fn write_back(
 }
 
 // The answer of a search that ended at the place u, or past the last place, and its rows.
-pub fn deliver(
+pub(crate) fn deliver(
     node_modes: &[u8],
     node_ranks: &[u16],
     tails: &[u16],

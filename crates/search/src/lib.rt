@@ -1,4 +1,4 @@
-// The searches: plain, and over rows.
+// The searches: plain, over rows, and for witnesses.
 mod engine;
 mod homeward;
 mod labels;
@@ -9,5 +9,6 @@ mod pick;
 pub mod plain;
 mod rooms;
 pub mod rows;
+pub mod witness;
 
 pub use legs::Told;

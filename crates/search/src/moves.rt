@@ -13,7 +13,7 @@ use network::sheet::State;
 use network::weight::Weight;
 
 // Whether a row from y to x leads down. In the plain search every node is read as core, so none does.
-pub fn descends(plain: bool, node_ranks: &[u16], x: usize, y: usize) -> bool
+pub(crate) fn descends(plain: bool, node_ranks: &[u16], x: usize, y: usize) -> bool
     ensures { λ r. ⌜ Decides r (Falls plain (now («node_ranks» .entry)) x y) ⌝ }
 {
     if plain {
@@ -23,7 +23,7 @@ pub fn descends(plain: bool, node_ranks: &[u16], x: usize, y: usize) -> bool
 }
 
 // Whether bit i of a byte is set.
-pub fn bit(byte: u8, i: usize) -> bool
+pub(crate) fn bit(byte: u8, i: usize) -> bool
     requires { ⌜ i < 8 ⌝ }
     ensures { λ r. ⌜ Decides r (Bit byte i) ⌝ }
 {
@@ -85,7 +85,7 @@ fn offer_states(
 }
 
 // Offers a label to all places that a row of this mode leads to, from the state q to a node whose place of state 0 is `base`.
-pub fn arrive(
+pub(crate) fn arrive(
     sheet: [State; 8],
     states: usize,
     mode: usize,

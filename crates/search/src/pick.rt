@@ -29,7 +29,7 @@ fn look(wide: &[u64], narrow: &[u32], p: usize, old: Choice) -> Choice
 }
 
 // A lightest waiting place that has a label, or how many places there are.
-pub fn pick(wide: &[u64], narrow: &[u32], places: usize) -> usize
+pub(crate) fn pick(wide: &[u64], narrow: &[u32], places: usize) -> usize
     requires { ⌜ places ≤ 8192 ⌝ }
     ensures { λ r. ⌜ Picked places (label (now (wide .entry)) (now (narrow .entry))) (mark (now (narrow .entry))) r ⌝ }
 {

@@ -3,7 +3,7 @@ ghost use mathlib.Core.Path.{_≡_};
 ghost use lib.ListN.{length, replicate};
 ghost use Rattle.search.specs.Answers.{Zeroed};
 
-pub fn fill64(longs: &mut [u64], value: u64)
+pub(crate) fn fill64(longs: &mut [u64], value: u64)
     ensures { λ _. ⌜ now (longs .exit) ≡ replicate (length (now (longs .entry))) value ⌝ }
 {
     let mut i = 0;
@@ -13,7 +13,7 @@ pub fn fill64(longs: &mut [u64], value: u64)
     }
 }
 
-pub fn fill32(words: &mut [u32], value: u32)
+pub(crate) fn fill32(words: &mut [u32], value: u32)
     ensures { λ _. ⌜ now (words .exit) ≡ replicate (length (now (words .entry))) value ⌝ }
 {
     let mut i = 0;
@@ -24,7 +24,7 @@ pub fn fill32(words: &mut [u32], value: u32)
 }
 
 // Zeroes both rooms, all of them.
-pub fn clear(wide: &mut [u64], narrow: &mut [u32])
+pub(crate) fn clear(wide: &mut [u64], narrow: &mut [u32])
     ensures { λ _. ⌜ Zeroed (now (wide .entry)) (now (wide .exit)) (now (narrow .entry)) (now (narrow .exit)) ⌝ }
 {
     fill64(wide, 0);
