@@ -2,4 +2,5 @@
 pub mod Contraction
 pub mod Opening
 pub mod Opened
+-- Words in which the inner functions speak to each other. No entry point's promise rests on them.
 pub mod Steps

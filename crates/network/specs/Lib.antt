@@ -7,4 +7,5 @@ pub mod Rows
 pub mod Journey
 pub mod Refusal
 pub mod Answers
+-- Words in which the inner functions speak to each other. No entry point's promise rests on them.
 pub mod Steps

@@ -53,34 +53,3 @@ module _ {N : Network} {ss : List Row} {S : Sheet} {Down : ℕ → ℕ → Type 
         walks .from-walk rs (record { p = o .from; q = u; starts = o .starts; targets = t; trail = o .trail }),
         sym (after-all-along N ss S Down from to zero-weight rs) ∙ o .weighs,
       )
-
--- the row search
-module _ {N : Network} {ss : List Row} {S : Sheet} {from to : ℕ} (sound : Sound N) (table : SoundTable N ss) (sheet : Counted S)
-    (inside : from < nodes N) {d : ℕ → Weight} {s pr pp : ℕ → ℕ} {k : ℕ}
-    (g : Greedy (search-graph N ss S (Before (N .node-ranks)) from to) d s pr pp k) where
-  pub up-down-found : {u : ℕ} → Lightest (search-graph N ss S (Before (N .node-ranks)) from to) d s u
-      → Unmet (search-graph N ss S (Before (N .node-ranks)) from to) s → TargetAt S to u → Least N ss (UpDownJourney N ss S from to) (d u)
-  up-down-found = search-found sound table inside (up-down-walks sound table sheet) g
-
-  pub up-down-none : Nobody (search-graph N ss S (Before (N .node-ranks)) from to) d s
-      → Unmet (search-graph N ss S (Before (N .node-ranks)) from to) s → None (UpDownJourney N ss S from to)
-  up-down-none = search-none sound table inside (up-down-walks sound table sheet) g
-
-  pub up-down-traced : {u : ℕ} → Lightest (search-graph N ss S (Before (N .node-ranks)) from to) d s u → TargetAt S to u
-      → (n : ℕ) → legs (d u) ≤ n
-      → UpDownJourney N ss S from to (back (λ x. legs (d x)) pr pp n u []) × (weight N ss (back (λ x. legs (d x)) pr pp n u []) ≡ d u)
-  up-down-traced = search-traced sound table inside (up-down-walks sound table sheet) g
-
--- the plain search
-module _ {N : Network} {S : Sheet} {from to : ℕ} (sound : Sound N) (sheet : Counted S) (inside : from < nodes N)
-    {d : ℕ → Weight} {s pr pp : ℕ → ℕ} {k : ℕ} (g : Greedy (search-graph N [] S Flat from to) d s pr pp k) where
-  pub plain-found : {u : ℕ} → Lightest (search-graph N [] S Flat from to) d s u → Unmet (search-graph N [] S Flat from to) s → TargetAt S to u
-      → Least N [] (Journey N [] S from to) (d u)
-  plain-found = search-found sound (no-table sound) inside (plain-walks sound sheet) g
-
-  pub plain-none : Nobody (search-graph N [] S Flat from to) d s → Unmet (search-graph N [] S Flat from to) s → None (Journey N [] S from to)
-  plain-none = search-none sound (no-table sound) inside (plain-walks sound sheet) g
-
-  pub plain-traced : {u : ℕ} → Lightest (search-graph N [] S Flat from to) d s u → TargetAt S to u → (n : ℕ) → legs (d u) ≤ n
-      → Journey N [] S from to (back (λ x. legs (d x)) pr pp n u []) × (weight N [] (back (λ x. legs (d x)) pr pp n u []) ≡ d u)
-  plain-traced = search-traced sound (no-table sound) inside (plain-walks sound sheet) g

@@ -133,31 +133,8 @@ module _ {N : Network} {ss : List Row} {S : Sheet} {Down : ℕ → ℕ → Type 
       few : w .edges ≤ edges
       few = omega (arith, h .edges-bound, mul-le-mul-right c (o .short), n)
 
--- "an answer has at most 4,095 edges and 268,365,825 seconds"
-edges-within : {N : Network} → Sound N → Within N [] 65535 1
-edges-within {N} sound = record {
-  short = λ r l. subst (λ (x : Row). x .length ≤ 65535) (sym (row-edge N [] r (omega arith))) (sound .edge-fine r (omega arith) .short);
-  some = λ r l. subst (λ (x : Row). 1 ≤ x .count) (sym (row-edge N [] r (omega arith))) (omega arith);
-  few = λ r l. subst (λ (x : Row). x .count ≤ 1) (sym (row-edge N [] r (omega arith))) (omega arith);
-}
-
-pub plain-bounds : {N : Network} {S : Sheet} {from to : ℕ} {w : Weight} → Sound N → Counted S → Least N [] (Journey N [] S from to) w
-    → LeastBounds N [] S from to (Journey N [] S from to) 268365825 4095 w
-plain-bounds sound sheet =
-    least-bounds sound (no-table sound) (plain-walks sound sheet) (edges-within sound) 268365825 4095 (omega arith) (omega arith)
-
 -- "4,095 rows, so 2,092,545 edges and 137,134,936,575 seconds"
 pub up-down-bounds : {N : Network} {ss : List Row} {S : Sheet} {from to : ℕ} {w : Weight} → Sound N → SoundTable N ss → Counted S
     → Least N ss (UpDownJourney N ss S from to) w → LeastBounds N ss S from to (UpDownJourney N ss S from to) 137134936575 2092545 w
 up-down-bounds sound table sheet =
     least-bounds sound table (up-down-walks sound table sheet) (rows-within sound table) 137134936575 2092545 (omega arith) (omega arith)
-
--- the least weight is one, and it excludes that there is none
-pub least-one : {N : Network} {ss : List Row} {P : List ℕ → Type 0} {w w′ : Weight} → Least N ss P w → Least N ss P w′ → w ≡ w′
-least-one {N} {ss} {P} a b = neither-lighter (λ h. not-below b a h) (λ h. not-below a b h)
-  where
-    not-below : {v v′ : Weight} → Least N ss P v → Least N ss P v′ → Lighter v′ v → ⊥
-    not-below {v} a b h = a .none-lighter (b .path) (b .allowed) (subst (λ (x : Weight). Lighter x v) (sym (b .weighs)) h)
-
-pub least-some : {N : Network} {ss : List Row} {P : List ℕ → Type 0} {w : Weight} → Least N ss P w → None P → ⊥
-least-some a n = n .no-path (a .path) (a .allowed)

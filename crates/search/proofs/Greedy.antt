@@ -98,10 +98,6 @@ module _ {G : Graph} (laws : Laws G) where
   after-all-mono w w′ [] h = h
   after-all-mono w w′ (r ∷ rs) h = after-all-mono (G .after w r) (G .after w′ r) rs (laws .after-mono w w′ r h)
 
-  -- an attained label is no lighter than the first
-  pub reached-le : {s : ℕ → ℕ} {k : ℕ} {w : G .Label} {v : ℕ} → Reached G s k w v → G .Le (G .first) w
-  reached-le r = subst (λ (x : G .Label). G .Le (G .first) x) (r .weighs) (after-all-le (G .first) (r .rows))
-
   -- a walk ends at a place
   pub trail-in : {p q : ℕ} {rs : List ℕ} → Trail G p q rs → p < G .places → q < G .places
   trail-in (halt e) l = subst (λ (x : ℕ). x < G .places) e l
@@ -304,11 +300,6 @@ module _ {G : Graph} (laws : Laws G) {d : ℕ → G .Label} {s pr pp : ℕ → �
   -- so there is none to a target, unless one was settled before
   pub greedy-nowhere : Unmet G s → (p q : ℕ) (rs : List ℕ) → G .Start p → G .Target q → Trail G p q rs → ⊥
   greedy-nowhere unmet p q rs h m t = unmet .each q (trail-in laws t (laws .start-in p h)) m (greedy-over h t)
-
-  -- in particular where no target has a label
-  pub greedy-unlabelled : ((t : ℕ) → t < G .places → G .Target t → G .Le (G .none) (d t)) → (p q : ℕ) (rs : List ℕ) → G .Start p → G .Target q
-      → Trail G p q rs → ⊥
-  greedy-unlabelled f = greedy-nowhere (record { each = λ t l m z. g .labelled t l z (f t l m) })
 
 -- a turn at a place that is no target settles no target
 pub unmet-turn : {G : Graph} {u : ℕ} {s s′ : ℕ → ℕ} → Settles G u s s′ → (G .Target u → ⊥) → Unmet G s → Unmet G s′

@@ -102,9 +102,6 @@ state-place u q f a b = omega arith
 pub phase-place : (u q f : ℕ) → f < 2 → phase-of (place u q f) ≡ f
 phase-place u q f b = omega arith
 
-pub place-parts : (p : ℕ) → p ≡ place (node-of p) (state-of p) (phase-of p)
-place-parts p = omega arith
-
 -- the phase that a row leads to is one
 module _ {Down : ℕ → ℕ → Type 0} {u x f f′ : ℕ} where
   pub phase-down : Phase Down u x f f′ → Down x u → f′ ≡ 1

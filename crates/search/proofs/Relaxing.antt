@@ -62,11 +62,6 @@ module _ {G : Graph} {u : ℕ} {w : G .Label} {d : ℕ → G .Label} {pr pp : �
       bound-to : (r : ℕ) → G .Arc u r v → T r v → G .Le (d″ v) (G .after w r)
       bound-to r a t = subst (λ (y : G .Label). G .Le y (G .after w r)) (sym (m .label)) (p .bound r v a t)
 
-    -- the same, of labels and parents after that are equal at the places
-    pub relax-to : Laws G → {d″ : ℕ → G .Label} {pr″ pp″ : ℕ → ℕ} → ((v : ℕ) → v < G .places → Same G d′ d″ pr′ pr″ pp′ pp″ v)
-        → Relaxed G u w T d d″ pr pr″ pp pp″
-    relax-to laws f = record { lower = λ v l. lower-to (f v l) l; bound = λ r v a t. bound-to (f v (laws .head-in u r v a)) r a t }
-
     -- one more, by which the label of v₀ does not fall
     pub relax-keep : (r₀ v₀ : ℕ) → (G .Arc u r₀ v₀ → G .Le (d′ v₀) (G .after w r₀)) → Relaxed G u w (Also T r₀ v₀) d d′ pr pr′ pp pp′
     relax-keep r₀ v₀ h = record { lower = p .lower; bound = λ r v a t. go r v a t }

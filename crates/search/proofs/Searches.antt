@@ -112,10 +112,6 @@ module _ {N : Network} {ss : List Row} (sound : Sound N) (table : SoundTable N s
     edges-held = omega (arith, b .few, b .edges-small, ⊕-edges w (cost (row N ss r)), row-fine sound table r l .few);
   }
 
-  pub after-some : (r : ℕ) → r < rows N ss → Lighter (w ⊕ cost (row N ss r)) none-yet
-  after-some r l = not-≼-lighter (λ h.
-      omega (arith, ≼-time h, b .few, b .time-small, ⊕-time w (cost (row N ss r)), row-fine sound table r l .short))
-
 -- a walk from a start to a target
 pub record Walk (N : Network) (ss : List Row) (S : Sheet) (Down : ℕ → ℕ → Type 0) (from to : ℕ) (rs : List ℕ) : Type 0 where
   pub p : ℕ
