@@ -9,3 +9,14 @@ pub mod sheet;
 pub mod table;
 mod transfers;
 pub mod weight;
+
+// The total reads and writes of the columns, handed on.
+pub use columns::at8;
+pub use columns::at16;
+pub use columns::at32;
+pub use columns::at64;
+pub use columns::node_at;
+pub use columns::put8;
+pub use columns::put16;
+pub use columns::put32;
+pub use columns::put64;

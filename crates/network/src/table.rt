@@ -12,14 +12,8 @@ use crate::rows::Row;
 use crate::rows::row_at;
 use columns::at16;
 
-// Whether there are few enough rows, in columns that agree in length.
-fn rows_sized(
-    node_modes: &[u8],
-    node_ranks: &[u16],
-    tails: &[u16],
-    heads: &[u16],
-    modes: &[u8],
-    lengths: &[u16],
+// Whether the columns agree in length.
+pub fn even_rows(
     shortcut_tails: &[u16],
     shortcut_heads: &[u16],
     shortcut_modes: &[u8],
@@ -28,7 +22,7 @@ fn rows_sized(
     shortcut_firsts: &[u16],
     shortcut_seconds: &[u16],
 ) -> bool
-    ensures { λ r. ⌜ Decides r (RowsSized (network (now («node_modes» .entry)) (now («node_ranks» .entry)) (now (tails .entry)) (now (heads .entry)) (now (modes .entry)) (now (lengths .entry))) (columns (now («shortcut_tails» .entry)) (now («shortcut_heads» .entry)) (now («shortcut_modes» .entry)) (now («shortcut_lengths» .entry)) (now («shortcut_counts» .entry)) (now («shortcut_firsts» .entry)) (now («shortcut_seconds» .entry)))) ⌝ }
+    ensures { λ r. ⌜ Decides r (Even (columns (now («shortcut_tails» .entry)) (now («shortcut_heads» .entry)) (now («shortcut_modes» .entry)) (now («shortcut_lengths» .entry)) (now («shortcut_counts» .entry)) (now («shortcut_firsts» .entry)) (now («shortcut_seconds» .entry)))) ⌝ }
 {
     if shortcut_heads.len() != shortcut_tails.len() {
         return false;
@@ -48,13 +42,45 @@ fn rows_sized(
     if shortcut_seconds.len() != shortcut_tails.len() {
         return false;
     }
-    if 4096 < tails.len() {
-        return false;
-    }
-    if 4096 - tails.len() < shortcut_tails.len() {
-        return false;
-    }
     true
+}
+
+// Whether there are few enough rows, in columns that agree in length.
+fn rows_sized(
+    node_modes: &[u8],
+    node_ranks: &[u16],
+    tails: &[u16],
+    heads: &[u16],
+    modes: &[u8],
+    lengths: &[u16],
+    shortcut_tails: &[u16],
+    shortcut_heads: &[u16],
+    shortcut_modes: &[u8],
+    shortcut_lengths: &[u32],
+    shortcut_counts: &[u16],
+    shortcut_firsts: &[u16],
+    shortcut_seconds: &[u16],
+) -> bool
+    ensures { λ r. ⌜ Decides r (RowsSized (network (now («node_modes» .entry)) (now («node_ranks» .entry)) (now (tails .entry)) (now (heads .entry)) (now (modes .entry)) (now (lengths .entry))) (columns (now («shortcut_tails» .entry)) (now («shortcut_heads» .entry)) (now («shortcut_modes» .entry)) (now («shortcut_lengths» .entry)) (now («shortcut_counts» .entry)) (now («shortcut_firsts» .entry)) (now («shortcut_seconds» .entry)))) ⌝ }
+{
+    if even_rows(
+        shortcut_tails,
+        shortcut_heads,
+        shortcut_modes,
+        shortcut_lengths,
+        shortcut_counts,
+        shortcut_firsts,
+        shortcut_seconds,
+    ) {
+        if 4096 < tails.len() {
+            return false;
+        }
+        if 4096 - tails.len() < shortcut_tails.len() {
+            return false;
+        }
+        return true;
+    }
+    false
 }
 
 // Whether the rows a and b, one behind the other, lead from the tail of x to its head.

@@ -1,23 +1,40 @@
 -- The graph that a search walks: places are (node, state, phase), coded as numbers; and its walks are the ways that go up, then down.
-use mathlib.Core.Path.{_≡_, refl, sym, ap, ap₂, subst, subst₂, _∙_}
+use mathlib.Core.Path.{_≡_, refl, sym, ap, subst, subst₂, _∙_}
 use mathlib.Core.List.{List, [], _∷_}
-use Prim.Native.Nat.{ℕ, _+_, _*_, _/_, _%_, _<_}
+use Prim.Native.Nat.{ℕ, _+_, _*_, _/_, _<_}
 use native.Mathlib.Omega.{arith}
 use Rattle.network.specs.declared.weight.Weight.{Weight}
 use Rattle.network.specs.declared.rows.Row.{Row}
-use Rattle.network.specs.Weight.{zero-weight, none-yet, _⊕_}
+use Rattle.network.specs.Weight.{_⊕_}
 use Rattle.network.specs.Order.{Before}
 use Rattle.network.specs.Network.{Network, nodes, Sound}
-use Rattle.network.specs.Sheet.{Sheet, MayRide, MayChange, Initial, Final, Counted}
+use Rattle.network.specs.Sheet.{Sheet, MayRide, MayChange, Counted}
 use Rattle.network.specs.Rows.{row, rows, cost, SoundTable}
 use Rattle.network.specs.Journey.{Way, stay, ride, change, along, Stop, stops}
-use Rattle.network.proofs.WeightLaws.{_≼_}
 use Rattle.network.proofs.OrderLaws.{before-dec, before-asym, before-not-core, before-total}
 use Rattle.network.proofs.RowLaws.{row-fine}
 use Rattle.network.proofs.Pigeonhole.{AllBelow}
 use Rattle.search.specs.UpDown.{UpDown}
-use Rattle.search.specs.Places.{place, node-of, state-of, phase-of, Phase, level, down, Shift, riding, changing, Move, Homeward, home, by-row, Useful, search-graph, Flat}
-use Rattle.search.specs.Graph.{Graph, Trail, halt, on, after-all}
+use Rattle.search.specs.Places.{
+  place,
+  node-of,
+  state-of,
+  phase-of,
+  Phase,
+  level,
+  down,
+  Shift,
+  riding,
+  changing,
+  Move,
+  Homeward,
+  home,
+  by-row,
+  Useful,
+  search-graph,
+  Flat,
+}
+use Rattle.search.specs.Graph.{Trail, halt, on, after-all}
 use Rattle.search.proofs.Simple.{Visit, last, next}
 
 -- the (node, state) pair of a place, coded as a stop is
@@ -174,34 +191,38 @@ pub after-all-along : (N : Network) (ss : List Row) (S : Sheet) (Down : ℕ → 
 after-all-along N ss S Down from to w [] = refl
 after-all-along N ss S Down from to w (r ∷ rs) = after-all-along N ss S Down from to (w ⊕ cost (row N ss r)) rs
 
--- From the ways to the walks: rs from node u in state q and phase f to node v in state j. If it has begun to descend, all its nodes are
--- homeward, u among them.
-record Onward (N : Network) (ss : List Row) (S : Sheet) (Down : ℕ → ℕ → Type 0) (from u q f v j : ℕ) (rs : List ℕ) : Type 0 where
-  end : ℕ
-  small : end < 2
-  trail : Trail (search-graph N ss S Down from v) (place u q f) (place v j end) rs
-  homeward : f ≡ 1 → Homeward N ss Down v u
+-- From the ways to the walks: rs from node u in state q and phase f to node v in state j, through the stops of the codes ks. If it has begun
+-- to descend, all its nodes are homeward, u among them.
+pub record Onward (N : Network) (ss : List Row) (S : Sheet) (Down : ℕ → ℕ → Type 0) (from u q f v j : ℕ) (rs ks : List ℕ) : Type 0 where
+  pub end : ℕ
+  pub small : end < 2
+  pub visit : Visit (search-graph N ss S Down from v) key-of (place u q f) (place v j end) rs ks
+  pub homeward : f ≡ 1 → Homeward N ss Down v u
 
 module _ {N : Network} {ss : List Row} {S : Sheet} {Down : ℕ → ℕ → Type 0} {from : ℕ} (sound : Sound N) (table : SoundTable N ss)
     (downward : Downward N Down) where
   -- one more row in front
-  more : {u q x i v j r : ℕ} {rs : List ℕ} → r < rows N ss → row N ss r .tail ≡ u → row N ss r .head ≡ x → Shift S (row N ss r .mode) q i
+  more : {u q x i v j r : ℕ} {rs ks : List ℕ} → r < rows N ss → row N ss r .tail ≡ u → row N ss r .head ≡ x → Shift S (row N ss r .mode) q i
       → q < 8 → i < 8 → UpDownBy Down N ss (r ∷ rs) → (f : ℕ) → f < 2 → Entered N ss Down u f (r ∷ rs)
-      → ((g : ℕ) → g < 2 → Entered N ss Down x g rs → UpDownBy Down N ss rs → Onward N ss S Down from x i g v j rs)
-      → Onward N ss S Down from u q f v j (r ∷ rs)
-  more {u} {q} {x} {i} {v} {j} {r} {rs} l a b c q8 i8 ud f f2 en rest = go (downward .decide (row N ss r .head) (row N ss r .tail)) en
+      → ((g : ℕ) → g < 2 → Entered N ss Down x g rs → UpDownBy Down N ss rs → Onward N ss S Down from x i g v j rs ks)
+      → Onward N ss S Down from u q f v j (r ∷ rs) ((8 * u + q) ∷ ks)
+  more {u} {q} {x} {i} {v} {j} {r} {rs} {ks} l a b c q8 i8 ud f f2 en rest = go (downward .decide (row N ss r .head) (row N ss r .tail)) en
     where
       t : UpDownBy Down N ss rs × (Down (row N ss r .head) (row N ss r .tail) → NotUp Down N ss (row N ss r .head) rs)
       t = up-down-tail Down N ss r rs ud
 
-      go : Dec (Down (row N ss r .head) (row N ss r .tail)) → Entered N ss Down u f (r ∷ rs) → Onward N ss S Down from u q f v j (r ∷ rs)
+      here : 8 * u + q ≡ key-of (place u q f)
+      here = omega (arith, f2)
+
+      go : Dec (Down (row N ss r .head) (row N ss r .tail)) → Entered N ss Down u f (r ∷ rs)
+          → Onward N ss S Down from u q f v j (r ∷ rs) ((8 * u + q) ∷ ks)
       go (yes d) en =
           let o = rest 1 (omega arith) (fallen refl (row N ss r .tail) (subst (λ (y : ℕ). Down y (row N ss r .tail)) b d)
           (row-fine sound table r l .tail-in) (subst (λ (y : ℕ). NotUp Down N ss y rs) b (t .1 d))) (t .0) in
           record {
             end = o .end;
             small = o .small;
-            trail = on (down-at l a b c q8 i8 f2 d (o .homeward refl)) (o .trail);
+            visit = next (down-at l a b c q8 i8 f2 d (o .homeward refl)) here (o .visit);
             homeward = λ _. by-row l a b (subst₂ Down b a d) (o .homeward refl);
           }
       go (no n) (not-yet z) =
@@ -209,58 +230,49 @@ module _ {N : Network} {ss : List Row} {S : Sheet} {Down : ℕ → ℕ → Type 
           record {
             end = o .end;
             small = o .small;
-            trail = subst (λ (y : ℕ). Trail (search-graph N ss S Down from v) (place u q y) (place v j (o .end)) (r ∷ rs)) (sym z)
-                (on (level-at l a b c q8 i8 n) (o .trail));
+            visit = next
+                (subst (λ (y : ℕ). Useful N ss S Down v (place u q y) r (place x i 0)) (sym z) (level-at l a b c q8 i8 n))
+                here
+                (o .visit);
             homeward = λ e. absurd (omega arith);
           }
       go (no n) (fallen z y d k nu) =
           absurd (n (subst (λ (i : ℕ). Down (row N ss r .head) i) (sym a)
           (downward .total u y (row N ss r .head) d k (λ e. row-fine sound table r l .apart (a ∙ e)) nu)))
 
-  way-onward : Counted S → {u q v j : ℕ} {rs : List ℕ} → Way N ss S u q v j rs → q < 8 → (f : ℕ) → f < 2 → Entered N ss Down u f rs
-      → UpDownBy Down N ss rs → Onward N ss S Down from u q f v j rs
+  way-onward : Counted S → {u q v j : ℕ} {rs : List ℕ} (w : Way N ss S u q v j rs) → q < 8 → (f : ℕ) → f < 2 → Entered N ss Down u f rs
+      → UpDownBy Down N ss rs → Onward N ss S Down from u q f v j rs (codes (stops w))
+  unfolding stops
   way-onward sheet (stay {u = u} {q = q} {v = v} {j = j} a b) q8 f f2 en ud =
       let e : place u q f ≡ place v j f = omega arith in
-      record { end = f; small = f2; trail = halt e; homeward = λ _. home a }
+      record { end = f; small = f2; visit = last {k = 8 * u + q} e (omega arith); homeward = λ _. home a }
   way-onward sheet (ride l a b m c w) q8 f f2 en ud =
       more l a b (riding m c refl) q8 q8 ud f f2 en (λ g h e u. way-onward sheet w q8 g h e u)
   way-onward sheet (change {i = i} l a b m c k w) q8 f f2 en ud =
       let i8 : i < 8 = omega (arith, k, sheet .few-states) in
       more l a b (changing m c k) q8 i8 ud f f2 en (λ g h e u. way-onward sheet w i8 g h e u)
 
-  pub way-trail : Counted S → {u q v j : ℕ} {rs : List ℕ} → Way N ss S u q v j rs → q < 8 → UpDownBy Down N ss rs
-      → (f : ℕ) × (f < 2) × Trail (search-graph N ss S Down from v) (place u q 0) (place v j f) rs
-  way-trail sheet w q8 ud = let o = way-onward sheet w q8 0 (omega arith) (not-yet refl) ud in (o .end, o .small, o .trail)
+  pub way-visit : Counted S → {u q v j : ℕ} {rs : List ℕ} (w : Way N ss S u q v j rs) → q < 8 → UpDownBy Down N ss rs
+      → Onward N ss S Down from u q 0 v j rs (codes (stops w))
+  way-visit sheet w q8 ud = way-onward sheet w q8 0 (omega arith) (not-yet refl) ud
 
 -- and back: what the walks go through is a way
 module _ {N : Network} {ss : List Row} {S : Sheet} where
-  shift-way : {u q x i v j r : ℕ} {rs ks : List ℕ} → r < rows N ss → row N ss r .tail ≡ u → row N ss r .head ≡ x
-      → Shift S (row N ss r .mode) q i → (k : ℕ) → 8 * u + q ≡ k → ((i′ : ℕ) → i ≡ i′ → (w : Way N ss S x i′ v j rs) × (codes (stops w) ≡ ks))
-      → (w : Way N ss S u q v j (r ∷ rs)) × (codes (stops w) ≡ k ∷ ks)
-  unfolding stops
-  shift-way l a b (riding m c e) k h rest =
-      let z = rest _ e in
-      (ride l a b m c (z .0), ap₂ (λ (y : ℕ) (ys : List ℕ). y ∷ ys) h (z .1))
-  shift-way l a b (changing m c s) k h rest =
-      let z = rest _ refl in
-      (change l a b m c s (z .0), ap₂ (λ (y : ℕ) (ys : List ℕ). y ∷ ys) h (z .1))
+  shift-way : {u q x i v j r : ℕ} {rs : List ℕ} → r < rows N ss → row N ss r .tail ≡ u → row N ss r .head ≡ x
+      → Shift S (row N ss r .mode) q i → ((i′ : ℕ) → i ≡ i′ → Way N ss S x i′ v j rs) → Way N ss S u q v j (r ∷ rs)
+  shift-way l a b (riding m c e) rest = ride l a b m c (rest _ e)
+  shift-way l a b (changing m c k) rest = change l a b m c k (rest _ refl)
 
   module _ {Down : ℕ → ℕ → Type 0} {from to : ℕ} where
-    pub visit-way : {p p′ : ℕ} {rs ks : List ℕ} → Visit (search-graph N ss S Down from to) key-of p p′ rs ks
-        → (u q v j : ℕ) → node-of p ≡ u → state-of p ≡ q → node-of p′ ≡ v → state-of p′ ≡ j
-        → (w : Way N ss S u q v j rs) × (codes (stops w) ≡ ks)
-    unfolding stops
-    visit-way {p} {p′} (last {k = k} e f) u q v j a b c d =
-        let x : 8 * u + q ≡ k = omega arith in
-        (stay (sym a ∙ ap node-of e ∙ c) (sym b ∙ ap state-of e ∙ d), ap (λ (y : ℕ). y ∷ []) x)
-    visit-way {p} {p′} (next {x = x} {r = r} {k = k} m f t) u q v j a b c d = shift-way
+    pub trail-way : {p p′ : ℕ} {rs : List ℕ} → Trail (search-graph N ss S Down from to) p p′ rs → (u q v j : ℕ) → node-of p ≡ u → state-of p ≡ q
+        → node-of p′ ≡ v → state-of p′ ≡ j → Way N ss S u q v j rs
+    trail-way (halt e) u q v j a b c d = stay (sym a ∙ ap node-of e ∙ c) (sym b ∙ ap state-of e ∙ d)
+    trail-way (on {x = x} {r = r} m t) u q v j a b c d = shift-way
         (m .move .row-in)
         (m .move .leaves ∙ a)
         (m .move .arrives)
         (subst (λ (y : ℕ). Shift S (row N ss r .mode) y (state-of x)) b (m .move .shift))
-        k
-        (omega arith)
-        (λ i e. visit-way t (node-of x) i v j refl e c d)
+        (λ i e. trail-way t (node-of x) i v j refl e c d)
 
 -- that goes up, then down
 sinks-not-up : {Down : ℕ → ℕ → Type 0} (N : Network) (ss : List Row) → Downward N Down → (u x : ℕ) (rs : List ℕ) → u ≡ x → Sinks Down N ss x rs

@@ -12,15 +12,29 @@ use Rattle.network.specs.Network.{Network, nodes, Sound}
 use Rattle.network.specs.Sheet.{Sheet, Initial, Final, Counted}
 use Rattle.network.specs.Rows.{row, rows, cost, SoundTable}
 use Rattle.network.specs.Journey.{along, Journey, stops, Least, None}
-use Rattle.network.proofs.WeightLaws.{≼-refl, ≼-trans, ≼-mono, ≼-less, ≼-time, ≼-not-lighter, not-≼-lighter, lighter-≼, ⊕-time, ⊕-edges}
+use Rattle.network.proofs.WeightLaws.{≼-refl, ≼-trans, ≼-mono, ≼-less, ≼-time, ≼-cancel-r, ≼-not-lighter, not-≼-lighter, lighter-≼, ⊕-time, ⊕-edges}
 use Rattle.network.proofs.RowLaws.{row-fine, no-table}
 use Rattle.network.proofs.Pigeonhole.{AllBelow}
 use Rattle.search.specs.UpDown.{UpDownJourney}
 use Rattle.search.specs.Graph.{Trail, after-all, Laws, Greedy, Best, Counts}
 use Rattle.search.proofs.Greedy.{via-trail}
-use Rattle.search.proofs.Simple.{Keyed, Visit, trail-visit}
+use Rattle.search.proofs.Simple.{Keyed, Costly, Visit, visit-trail}
 use Rattle.search.specs.Places.{place, node-of, state-of, phase-of, Phase, level, down, Shift, Move, StartAt, TargetAt, search-graph, Flat}
-use Rattle.search.proofs.Places.{key-of, codes, Downward, before-downward, flat-downward, UpDownBy, up-down-by, flat-up-down, trail-rows, after-all-along, way-trail, visit-way, trail-up-down}
+use Rattle.search.proofs.Places.{
+  key-of,
+  codes,
+  Downward,
+  before-downward,
+  flat-downward,
+  UpDownBy,
+  up-down-by,
+  flat-up-down,
+  trail-rows,
+  after-all-along,
+  way-visit,
+  trail-way,
+  trail-up-down,
+}
 
 -- How weights grow along rows.
 -- Every row takes at most t seconds, and counts for 1 to c edges.
@@ -80,6 +94,12 @@ module _ {N : Network} {ss : List Row} {S : Sheet} {Down : ℕ → ℕ → Type 
         omega (arith, ≼-time h, trail-grown (rows-within sound table) t .time-bound, l, sound .sized .few-nodes);
   }
 
+  pub search-costly : Costly (search-graph N ss S Down from to)
+  search-costly = record {
+    not-free = λ p r q a m h. omega (arith, ≼-time h, ⊕-time a (cost (row N ss r)), row-fine sound table r (m .move .row-in) .lasts);
+    after-cancel = λ a b r. ≼-cancel-r (cost (row N ss r)) a b;
+  }
+
   pub search-counts : Counts (search-graph N ss S Down from to) legs
   search-counts = record {
     count-first = refl;
@@ -130,55 +150,49 @@ pub record JourneyBy (N : Network) (ss : List Row) (S : Sheet) (Down : ℕ → �
   pub journey : Journey N ss S from to rs
   pub up-down : UpDownBy Down N ss rs
 
--- the journey of a walk, through the stops whose codes are the keys of its places
-pub visit-journey : {N : Network} {ss : List Row} {S : Sheet} {Down : ℕ → ℕ → Type 0} {from to p q : ℕ} {rs ks : List ℕ}
-    → StartAt S from p → TargetAt S to q → Visit (search-graph N ss S Down from to) key-of p q rs ks
-    → (j : Journey N ss S from to rs) × (codes (stops (j .way)) ≡ ks)
-visit-journey {from = from} {to = to} {p = p} {q = q} s t v =
-    let y = visit-way v from (state-of p) to (state-of q) (s .here) refl (t .here) refl in (
-      record {
-        start = state-of p;
-        end = state-of q;
-        start-state = s .known;
-        end-state = t .known;
-        initial = s .initial;
-        final = t .final;
-        way = y .0;
-      },
-      y .1,
-    )
-
 module _ {N : Network} {ss : List Row} {S : Sheet} {Down : ℕ → ℕ → Type 0} {from to : ℕ} (downward : Downward N Down) where
   pub walk-journey : {rs : List ℕ} → Walk N ss S Down from to rs → JourneyBy N ss S Down from to rs
   walk-journey w = record {
-    journey = visit-journey (w .starts) (w .targets) (trail-visit key-of (w .trail) .1) .0;
+    journey = record {
+      start = state-of (w .p);
+      end = state-of (w .q);
+      start-state = w .starts .known;
+      end-state = w .targets .known;
+      initial = w .starts .initial;
+      final = w .targets .final;
+      way = trail-way (w .trail) from (state-of (w .p)) to (state-of (w .q)) (w .starts .here) refl (w .targets .here) refl;
+    };
     up-down = trail-up-down downward (w .trail) .0;
   }
 
-  pub journey-walk : {rs : List ℕ} → Sound N → SoundTable N ss → Counted S → JourneyBy N ss S Down from to rs → Walk N ss S Down from to rs
+  -- the walk of a journey goes through the places whose keys are the codes of its stops
+  pub journey-walk : {rs : List ℕ} → Sound N → SoundTable N ss → Counted S → (j : JourneyBy N ss S Down from to rs)
+      → (w : Walk N ss S Down from to rs) × Visit (search-graph N ss S Down from to) key-of (w .p) (w .q) rs (codes (stops (j .journey .way)))
   journey-walk {rs} sound table sheet j =
       let a : j .journey .start < 8 = omega (arith, j .journey .start-state, sheet .few-states) in
       let b : j .journey .end < 8 = omega (arith, j .journey .end-state, sheet .few-states) in
-      let t = way-trail {from = from} sound table downward sheet (j .journey .way) a (j .up-down) in
+      let o = way-visit {from = from} sound table downward sheet (j .journey .way) a (j .up-down) in
       let e : state-of (place from (j .journey .start) 0) ≡ j .journey .start = omega arith in
-      let l : t .0 < 2 = t .1 in
-      let f : state-of (place to (j .journey .end) (t .0)) ≡ j .journey .end = omega arith in
-      record {
-        p = place from (j .journey .start) 0;
-        q = place to (j .journey .end) (t .0);
-        starts = record {
-          here = omega arith;
-          fresh = omega arith;
-          known = subst (λ (x : ℕ). x < S .states) (sym e) (j .journey .start-state);
-          initial = subst (λ (x : ℕ). Initial S x) (sym e) (j .journey .initial);
-        };
-        targets = record {
-          here = omega arith;
-          known = subst (λ (x : ℕ). x < S .states) (sym f) (j .journey .end-state);
-          final = subst (λ (x : ℕ). Final S x) (sym f) (j .journey .final);
-        };
-        trail = t .2;
-      }
+      let l : o .end < 2 = o .small in
+      let f : state-of (place to (j .journey .end) (o .end)) ≡ j .journey .end = omega arith in (
+        record {
+          p = place from (j .journey .start) 0;
+          q = place to (j .journey .end) (o .end);
+          starts = record {
+            here = omega arith;
+            fresh = omega arith;
+            known = subst (λ (x : ℕ). x < S .states) (sym e) (j .journey .start-state);
+            initial = subst (λ (x : ℕ). Initial S x) (sym e) (j .journey .initial);
+          };
+          targets = record {
+            here = omega arith;
+            known = subst (λ (x : ℕ). x < S .states) (sym f) (j .journey .end-state);
+            final = subst (λ (x : ℕ). Final S x) (sym f) (j .journey .final);
+          };
+          trail = visit-trail (o .visit);
+        },
+        o .visit,
+      )
 
 -- at the order of contraction they are the up-down journeys
 pub up-down-walks : {N : Network} {ss : List Row} {S : Sheet} {from to : ℕ} → Sound N → SoundTable N ss → Counted S
@@ -188,14 +202,14 @@ up-down-walks {N} {ss} sound table sheet = record {
       let j = walk-journey (before-downward sound) w in
       record { journey = j .journey; up-down = subst (λ (X : Type 0). X) (sym (up-down-by N ss rs)) (j .up-down) };
   to-walk = λ rs j. journey-walk (before-downward sound) sound table sheet
-      (record { journey = j .journey; up-down = subst (λ (X : Type 0). X) (up-down-by N ss rs) (j .up-down) });
+      (record { journey = j .journey; up-down = subst (λ (X : Type 0). X) (up-down-by N ss rs) (j .up-down) }) .0;
 }
 
 -- and with every node read as core, all journeys over edges
 pub plain-walks : {N : Network} {S : Sheet} {from to : ℕ} → Sound N → Counted S → Walks N [] S Flat from to (Journey N [] S from to)
 plain-walks {N} sound sheet = record {
   from-walk = λ rs w. walk-journey flat-downward w .journey;
-  to-walk = λ rs j. journey-walk flat-downward sound (no-table sound) sheet (record { journey = j; up-down = flat-up-down N [] rs });
+  to-walk = λ rs j. journey-walk flat-downward sound (no-table sound) sheet (record { journey = j; up-down = flat-up-down N [] rs }) .0;
 }
 
 -- what is best among the walks is least among those of P

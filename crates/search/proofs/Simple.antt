@@ -1,4 +1,4 @@
--- Walks without a repetition: every walk to a target has one beside it that is no heavier and goes through no key twice.
+-- Walks without a repetition: a walk to a target goes through no key twice, or there is a lighter one beside it.
 use mathlib.Core.Path.{_≡_, refl, sym, subst, _∙_}
 use mathlib.Core.Logic.{_⊎_, inl, inr, ⊎-elim}
 use mathlib.Core.List.{List, [], _∷_}
@@ -18,43 +18,44 @@ pub record Keyed (G : Graph) (K : ℕ) (key turn : ℕ → ℕ) : Type 0 where
   pub same-arc : (p p′ r q : ℕ) → key p ≡ key p′ → turn p ≤ turn p′ → G .Arc p′ r q → G .Arc p r q
   pub same-target : (p p′ : ℕ) → key p ≡ key p′ → turn p ≤ turn p′ → G .Target p′ → G .Target p
 
+-- no row is free, and of two labels the lighter one stays lighter by a row
+pub record Costly (G : Graph) : Type 0 where
+  pub not-free : (p r q : ℕ) (a : G .Label) → G .Arc p r q → G .Le (G .after a r) a → ⊥
+  pub after-cancel : (a b : G .Label) (r : ℕ) → G .Le (G .after a r) (G .after b r) → G .Le a b
+
 -- a walk with the keys of its places, both ends included
 pub data Visit (G : Graph) (key : ℕ → ℕ) : (p q : ℕ) → List ℕ → List ℕ → Type 0 where
   last : {p q k : ℕ} → p ≡ q → k ≡ key p → Visit G key p q [] (k ∷ [])
   next : {p x q r k : ℕ} {rs ks : List ℕ} → G .Arc p r x → k ≡ key p → Visit G key x q rs ks → Visit G key p q (r ∷ rs) (k ∷ ks)
 
--- a walk from p to a target that goes through no key twice, and is no heavier than rs
-pub record Simple (G : Graph) (key : ℕ → ℕ) (p : ℕ) (rs : List ℕ) : Type 0 where
+-- a walk from p to a target that is lighter than rs
+pub record Lightened (G : Graph) (p : ℕ) (rs : List ℕ) : Type 0 where
   pub to : ℕ
   pub rows : List ℕ
-  pub keys : List ℕ
   pub targets : G .Target to
-  pub visit : Visit G key p to rows keys
-  pub distinct : Distinct keys
-  pub lighter : (w : G .Label) → G .Le (after-all G w rows) (after-all G w rs)
+  pub trail : Trail G p to rows
+  pub lighter : (w : G .Label) → G .Le (after-all G w rs) (after-all G w rows) → ⊥
 
 -- the part of a walk from x that begins at a place with the key k
 record Found (G : Graph) (key turn : ℕ → ℕ) (x k q : ℕ) (rs : List ℕ) : Type 0 where
   at : ℕ
   rows : List ℕ
-  keys : List ℕ
-  visit : Visit G key at q rows keys
-  distinct : Distinct keys
+  trail : Trail G at q rows
   hit : key at ≡ k
   later : turn x ≤ turn at
-  lighter : (w : G .Label) → G .Le (after-all G w rows) (after-all G w rs)
+  no-heavier : (w : G .Label) → G .Le (after-all G w rows) (after-all G w rs)
 
 pub visit-trail : {G : Graph} {key : ℕ → ℕ} {p q : ℕ} {rs ks : List ℕ} → Visit G key p q rs ks → Trail G p q rs
 visit-trail (last e f) = halt e
 visit-trail (next a e v) = on a (visit-trail v)
 
-pub trail-visit : {G : Graph} (key : ℕ → ℕ) {p q : ℕ} {rs : List ℕ} → Trail G p q rs → (ks : List ℕ) × Visit G key p q rs ks
-trail-visit key (halt {p = p} e) = (key p ∷ [], last e refl)
-trail-visit key (on {p = p} a t) = let v = trail-visit key t in (key p ∷ v .0, next a refl (v .1))
-
 pub visit-length : {G : Graph} {key : ℕ → ℕ} {p q : ℕ} {rs ks : List ℕ} → Visit G key p q rs ks → length ks ≡ length rs + 1
 visit-length (last e f) = omega arith
 visit-length (next a e v) = omega (arith, visit-length v)
+
+after-all-cancel : {G : Graph} → Costly G → (a b : G .Label) (rs : List ℕ) → G .Le (after-all G a rs) (after-all G b rs) → G .Le a b
+after-all-cancel costly a b [] h = h
+after-all-cancel {G} costly a b (r ∷ rs) h = costly .after-cancel a b r (after-all-cancel costly (G .after a r) (G .after b r) rs h)
 
 module _ {G : Graph} (laws : Laws G) {K : ℕ} {key turn : ℕ → ℕ} (keyed : Keyed G K key turn) where
   key-below : {k p : ℕ} → k ≡ key p → p < G .places → k < K
@@ -68,90 +69,72 @@ module _ {G : Graph} (laws : Laws G) {K : ℕ} {key turn : ℕ → ℕ} (keyed :
   pub visit-short : {p q : ℕ} {rs ks : List ℕ} → Visit G key p q rs ks → p < G .places → Distinct ks → length rs < K
   visit-short {ks = ks} v l d = omega (arith, visit-length v, pigeonhole K ks (visit-below v l) d)
 
-  -- without the first row a walk is no heavier
-  after-row : {b : G .Label} (w : G .Label) (rs : List ℕ) (r : ℕ) → G .Le (after-all G (G .after w r) rs) b → G .Le (after-all G w rs) b
-  after-row w rs r h = laws .le-trans _ _ _ (after-all-mono laws w (G .after w r) rs (laws .after-more w r)) h
-
   -- a walk begins at its own first place
-  whole : {x q k : ℕ} {rs ks : List ℕ} → Visit G key x q rs ks → Distinct ks → key x ≡ k → Found G key turn x k q rs
-  whole {x} {rs = rs} {ks = ks} v d e = record {
+  whole : {x q k : ℕ} {rs ks : List ℕ} → Visit G key x q rs ks → key x ≡ k → Found G key turn x k q rs
+  whole {x} {rs = rs} v e = record {
     at = x;
     rows = rs;
-    keys = ks;
-    visit = v;
-    distinct = d;
+    trail = visit-trail v;
     hit = e;
     later = omega arith;
-    lighter = λ w. laws .le-refl (after-all G w rs);
+    no-heavier = λ w. laws .le-refl (after-all G w rs);
   }
 
-  find : {x q : ℕ} {rs ks : List ℕ} → Visit G key x q rs ks → Distinct ks → (k : ℕ) → Absent k ks ⊎ Found G key turn x k q rs
-  find (last {p = p} {q = q} {k = k′} e f) d k = go (ℕ-discrete k k′)
+  find : {x q : ℕ} {rs ks : List ℕ} → Visit G key x q rs ks → (k : ℕ) → Absent k ks ⊎ Found G key turn x k q rs
+  find (last {p = p} {q = q} {k = k′} e f) k = go (ℕ-discrete k k′)
     where
       go : Dec (k ≡ k′) → Absent k (k′ ∷ []) ⊎ Found G key turn p k q []
-      go (yes h) = inr (whole (last e f) d (sym f ∙ sym h))
+      go (yes h) = inr (whole (last e f) (sym f ∙ sym h))
       go (no n) = inl (n, tt)
-  find (next {p = p} {x = y} {q = q} {r = r} {k = k′} {rs = rs} {ks = ks} a f v) (and h d) k = go (ℕ-discrete k k′) (find v d k)
+  find (next {p = p} {x = y} {q = q} {r = r} {k = k′} {rs = rs} {ks = ks} a f v) k = go (ℕ-discrete k k′) (find v k)
     where
       go : Dec (k ≡ k′) → Absent k ks ⊎ Found G key turn y k q rs → Absent k (k′ ∷ ks) ⊎ Found G key turn p k q (r ∷ rs)
-      go (yes e) _ = inr (whole (next a f v) (and h d) (sym f ∙ sym e))
+      go (yes e) _ = inr (whole (next a f v) (sym f ∙ sym e))
       go (no n) (inl m) = inl (n, m)
       go (no n) (inr o) = inr record {
         at = o .at;
         rows = o .rows;
-        keys = o .keys;
-        visit = o .visit;
-        distinct = o .distinct;
+        trail = o .trail;
         hit = o .hit;
         later = omega (arith, keyed .turn-on p r y a, o .later);
-        lighter = λ w. after-row w (o .rows) r (o .lighter (G .after w r));
+        no-heavier = λ w. laws .le-trans _ _ _
+            (after-all-mono laws w (G .after w r) (o .rows) (laws .after-more w r))
+            (o .no-heavier (G .after w r));
       }
 
   -- the same rows from a place of the same key and a lower turn
-  from-other : {p p′ q : ℕ} {rs ks : List ℕ} {w₀ : List ℕ} → Visit G key p′ q rs ks → key p ≡ key p′ → turn p ≤ turn p′ → G .Target q
-      → Distinct ks → ((w : G .Label) → G .Le (after-all G w rs) (after-all G w w₀)) → Simple G key p w₀
-  from-other {p} {p′} {q} (last {k = k} e f) same l t d m = record {
-    to = p;
-    rows = [];
-    keys = k ∷ [];
-    targets = keyed .same-target p p′ same l (subst (λ (x : ℕ). G .Target x) (sym e) t);
-    visit = last refl (f ∙ sym same);
-    distinct = d;
-    lighter = m;
-  }
-  from-other {p} {p′} {q} (next {x = x} {r = r} {k = k} {rs = rs} {ks = ks} a f v) same l t d m = record {
-    to = q;
-    rows = r ∷ rs;
-    keys = k ∷ ks;
-    targets = t;
-    visit = next (keyed .same-arc p p′ r x same l a) (f ∙ sym same) v;
-    distinct = d;
-    lighter = m;
-  }
+  from-other : {p p′ q : ℕ} {rs : List ℕ} → Trail G p′ q rs → key p ≡ key p′ → turn p ≤ turn p′ → G .Target q
+      → (to : ℕ) × G .Target to × Trail G p to rs
+  from-other {p} {p′} (halt e) same l t = (p, keyed .same-target p p′ same l (subst (λ (x : ℕ). G .Target x) (sym e) t), halt refl)
+  from-other {p} {p′} {q} (on {x = x} {r = r} a b) same l t = (q, t, on (keyed .same-arc p p′ r x same l a) b)
 
-  pub simple : {p q : ℕ} {rs : List ℕ} → Trail G p q rs → G .Target q → Simple G key p rs
-  simple (halt {p = p} {q = q} e) t = record {
-    to = q;
-    rows = [];
-    keys = key p ∷ [];
-    targets = t;
-    visit = last e refl;
-    distinct = and tt no-more;
-    lighter = λ w. laws .le-refl w;
-  }
-  simple (on {p = p} {x = x} {q = q} {r = r} {rs = rs} a b) t = go (simple b t)
-    where
-      go : Simple G key x rs → Simple G key p (r ∷ rs)
-      go o = ⊎-elim
-          (λ m. record {
-            to = o .to;
-            rows = r ∷ o .rows;
-            keys = key p ∷ o .keys;
-            targets = o .targets;
-            visit = next a refl (o .visit);
-            distinct = and m (o .distinct);
-            lighter = λ w. o .lighter (G .after w r);
-          })
-          (λ f. from-other (f .visit) (sym (f .hit)) (omega (arith, keyed .turn-on p r x a, f .later)) (o .targets) (f .distinct)
-          (λ w. laws .le-trans _ _ _ (f .lighter w) (after-row w (o .rows) r (o .lighter (G .after w r)))))
-          (find (o .visit) (o .distinct) (key p))
+  module _ (costly : Costly G) where
+    -- a walk that comes back to the key of its first place is lighter without the round
+    without-round : {p x q r : ℕ} {rs : List ℕ} → G .Arc p r x → G .Target q → Found G key turn x (key p) q rs → Lightened G p (r ∷ rs)
+    without-round {p} {x} {q} {r} {rs} a t f =
+        let o = from-other {p = p} (f .trail) (sym (f .hit)) (omega (arith, keyed .turn-on p r x a, f .later)) t in
+        record {
+          to = o .0;
+          rows = f .rows;
+          targets = o .1;
+          trail = o .2;
+          lighter = λ w h. costly .not-free p r x w a
+              (after-all-cancel costly (G .after w r) w (f .rows) (laws .le-trans _ _ _ (f .no-heavier (G .after w r)) h));
+        }
+
+    pub simple-or-lightened : {p q : ℕ} {rs ks : List ℕ} → Visit G key p q rs ks → G .Target q → Distinct ks ⊎ Lightened G p rs
+    simple-or-lightened (last e f) t = inl (and tt no-more)
+    simple-or-lightened (next {p = p} {x = x} {q = q} {r = r} {k = k} {rs = rs} {ks = ks} a e v) t = go (simple-or-lightened v t)
+      where
+        go : Distinct ks ⊎ Lightened G x rs → Distinct (k ∷ ks) ⊎ Lightened G p (r ∷ rs)
+        go (inl d) = ⊎-elim
+            (λ m. inl (and m d))
+            (λ f. inr (without-round a t (subst (λ (y : ℕ). Found G key turn x y q rs) e f)))
+            (find v k)
+        go (inr o) = inr record {
+          to = o .to;
+          rows = r ∷ o .rows;
+          targets = o .targets;
+          trail = on a (o .trail);
+          lighter = λ w. o .lighter (G .after w r);
+        }

@@ -7,7 +7,7 @@ mod legs;
 mod moves;
 mod pick;
 pub mod plain;
-mod rooms;
+pub mod rooms;
 pub mod rows;
 pub mod witness;
 

@@ -24,7 +24,7 @@ pub(crate) fn fill32(words: &mut [u32], value: u32)
 }
 
 // Zeroes both rooms, all of them.
-pub(crate) fn clear(wide: &mut [u64], narrow: &mut [u32])
+pub fn clear(wide: &mut [u64], narrow: &mut [u32])
     ensures { λ _. ⌜ Zeroed (now (wide .entry)) (now (wide .exit)) (now (narrow .entry)) (now (narrow .exit)) ⌝ }
 {
     fill64(wide, 0);
