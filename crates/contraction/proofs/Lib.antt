@@ -26,3 +26,21 @@ pub mod Labels
 pub mod RuleTests
 pub mod Shortcuts
 pub mod CasesHold
+-- what preparation rests on
+pub mod ColumnLaws
+pub mod MarkedRows
+pub mod TurnOrder
+pub mod Turning
+pub mod PrepareRefusals
+pub mod LeastNoted
+pub mod Soonest
+pub mod LentRows
+pub mod PrepareUnique
+pub mod SiftingLaws
+pub mod WitnessMeaning
+pub mod ConditionThree
+pub mod ContractedPlain
+pub mod ContractedUnique
+pub mod RowsInPlace
+pub mod TableMade
+pub mod Preparation

@@ -18,7 +18,7 @@ use Rattle.network.specs.Journey.{Way, stay, ride, change, along, weight, Journ
 use Rattle.network.proofs.WeightLaws.{⊕-assoc, ⊕-edges}
 use Rattle.network.proofs.RowLaws.{row-edge}
 use Rattle.network.proofs.Pigeonhole.{AllBelow}
-use Rattle.contraction.specs.Opening.{opened-by, opened}
+use Rattle.contraction.specs.Opening.{opened-by, opened, opened-all}
 use Rattle.contraction.proofs.TableLaws.{EachSound, each-sound, link-edge}
 
 -- ways
@@ -172,11 +172,6 @@ opened-row t = opened-as (each-sound t)
 
 pub opened-length : {N : Network} {ss : List Row} → SoundTable N ss → (r : ℕ) → r < rows N ss → length (opened N ss r) ≡ row N ss r .count
 opened-length t r l = opened-row t r l .as-many
-
--- the edges of rows, one row after the other
-abbrev pub opened-all : Network → List Row → List ℕ → List ℕ
-opened-all N ss [] = []
-opened-all N ss (r ∷ rs) = opened N ss r ++ opened-all N ss rs
 
 pub way-rows : {N : Network} {ss : List Row} {S : Sheet} {u q v j : ℕ} {rs : List ℕ} → Way N ss S u q v j rs → AllBelow (rows N ss) rs
 way-rows (stay e f) = tt

@@ -84,3 +84,18 @@ pub prepared-front : {N : Network} (vs ws : List ℕ) {mid ss : List Row} → Pr
 prepared-front {N} vs ws {mid} {ss} p o c =
     let (mid′, d, f) = contracts-split vs (subst (λ l. Contracts N l [] ss) (order-unique (p .in-order) o) (p .contracts)) in
     contracts-front (subst (λ m. Contracts N ws m ss) (contracts-unique vs d c) f)
+
+-- every preparation has v's turn behind the same table
+pub record TurnIn (N : Network) (mid : List Row) (v : ℕ) (ss : List Row) : Type 0 where
+  pub added : List Row
+  pub adds : Adds N mid v added
+  pub in-front : Front (mid ++ added) ss
+
+pub prepared-turn : {N : Network} (vs : List ℕ) {v : ℕ} (ws : List ℕ) {mid ss : List Row} → Prepared N ss → Order N (vs ++ (v ∷ ws))
+    → Contracts N vs [] mid → TurnIn N mid v ss
+prepared-turn {N} vs {v} ws {mid} {ss} p o c =
+    let (mid′, d, f) = contracts-split vs (subst (λ l. Contracts N l [] ss) (order-unique (p .in-order) o) (p .contracts)) in
+    go (subst (λ m. Contracts N (v ∷ ws) m ss) (contracts-unique vs d c) f)
+  where
+    go : Contracts N (v ∷ ws) mid ss → TurnIn N mid v ss
+    go (turn {new = new} a e r) = record { added = new; adds = a; in-front = subst (λ m. Front m ss) e (contracts-front r) }

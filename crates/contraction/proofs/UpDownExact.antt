@@ -16,8 +16,9 @@ use Rattle.network.proofs.WeightLaws.{_≼_, ≼-refl, ≡-≼, ≼-trans, ≼-
 use Rattle.network.proofs.OrderLaws.{core-level}
 use Rattle.search.specs.UpDown.{UpDown, UpDownJourney}
 use Rattle.contraction.specs.Contraction.{Adds, Contracts, done, turn, Prepared}
+use Rattle.contraction.specs.Opening.{opened-all}
 use Rattle.contraction.proofs.PreparedUnique.{Front, contracts-front}
-use Rattle.contraction.proofs.OpeningLaws.{along-append, from-way, join-way, other-way, opened-all, journey-opened}
+use Rattle.contraction.proofs.OpeningLaws.{along-append, from-way, join-way, other-way, journey-opened}
 use Rattle.contraction.proofs.WeightMore.{≼-behind}
 use Rattle.contraction.proofs.Walks.{Walk, weaken, from, join, single, unsnoc, map-walk}
 use Rattle.contraction.proofs.RemainingTurns.{Gone, start-left, left-still}

@@ -2,5 +2,12 @@
 pub mod Contraction
 pub mod Opening
 pub mod Opened
+pub mod Answers
 -- Words in which the inner functions speak to each other. No entry point's promise rests on them.
 pub mod Steps
+pub mod Preparing
+pub mod Choosing
+pub mod Noting
+pub mod Writing
+pub mod Sifting
+pub mod InPlace

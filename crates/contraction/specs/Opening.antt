@@ -15,3 +15,8 @@ opened-by (suc n) N ss r =
 
 unfoldable pub opened : Network → List Row → ℕ → List ℕ
 opened N ss r = opened-by (suc r) N ss r
+
+-- the edges of rows, one row after the other
+abbrev pub opened-all : Network → List Row → List ℕ → List ℕ
+opened-all N ss [] = []
+opened-all N ss (r ∷ rs) = opened N ss r ++ opened-all N ss rs

@@ -12,7 +12,13 @@ use network::rows::row_at;
 use network::table::check_rows;
 
 // Opens a row of a checked table: an edge is its own leg, a shortcut opens its two children. Answers how many legs there are.
-fn open_row(edges: usize, firsts: &[u16], seconds: &[u16], row: u16, room: &mut [u16]) -> usize
+pub(crate) fn open_row(
+    edges: usize,
+    firsts: &[u16],
+    seconds: &[u16],
+    row: u16,
+    room: &mut [u16],
+) -> usize
     requires { ⌜ RowFits edges (now firsts) (now seconds) row (length (now room)) ⌝ }
     ensures { λ r. ⌜ Written (legs edges (now (firsts .entry)) (now (seconds .entry)) row) (now (room .entry)) r (now (room .exit)) ⌝ }
 {
