@@ -99,8 +99,8 @@ opened-more {N} {ss} s t (r ∷ rs) f =
       row-fine s t r l .some,
     )
 
--- the room when all but the first i rows are opened, from `end` on
-pub record Opening (N : Network) (ss : List Row) (written count : ℕ) (journey₀ journey : List ℕ) (i end : ℕ) : Type 0 where
+-- the first i rows are left to open; the legs of those behind them stand from `end` on
+pub record LeftToOpen (N : Network) (ss : List Row) (written count : ℕ) (journey₀ journey : List ℕ) (i end : ℕ) : Type 0 where
   pub within : i ≤ written
   pub size : length journey ≡ length journey₀
   pub ends : end ≡ length (opened-all N ss (take i journey₀))
@@ -108,10 +108,7 @@ pub record Opening (N : Network) (ss : List Row) (written count : ℕ) (journey�
   pub behind : drop end journey ≡ opened-all N ss (drop i (take written journey₀)) ++ drop count journey₀
 
 module _ {N : Network} {T : Columns} {written count : ℕ} {journey₀ : List ℕ} (s : RowsStand N T written count journey₀) where
-  abbrev ss : List Row
-  ss = table T
-
-  pub open-start : Opening N (table T) written count journey₀ journey₀ written count
+  pub open-start : LeftToOpen N (table T) written count journey₀ journey₀ written count
   open-start = record {
     within = omega arith;
     size = refl;
@@ -124,7 +121,7 @@ module _ {N : Network} {T : Columns} {written count : ℕ} {journey₀ : List �
   }
 
   -- a turn: the row at j is opened, from `begin` on
-  module _ {journey : List ℕ} {j end : ℕ} (o : Opening N (table T) written count journey₀ journey (suc j) end) where
+  module _ {journey : List ℕ} {j end : ℕ} (o : LeftToOpen N (table T) written count journey₀ journey (suc j) end) where
     here : getD journey j 0 ≡ getD journey₀ j 0
     here =
         sym (getD-take (suc j) journey j 0 (omega arith)) ∙ ap (λ (l : List ℕ). getD l j 0) (o .front) ∙ getD-take (suc j) journey₀ j 0 (omega arith)
@@ -179,7 +176,7 @@ module _ {N : Network} {T : Columns} {written count : ℕ} {journey₀ : List �
     }
 
     turn-at : {begin : ℕ} {journey′ : List ℕ} → LegsBefore N (table T) (getD journey j 0) end journey begin journey′
-        → Opening N (table T) written count journey₀ journey′ j begin
+        → LeftToOpen N (table T) written count journey₀ journey′ j begin
     turn-at {begin} {journey′} l = record {
       within = omega (arith, o .within);
       size = ap length (l .holds) ∙ omega (
@@ -225,21 +222,22 @@ module _ {N : Network} {T : Columns} {written count : ℕ} {journey₀ : List �
               (s .there k (omega (arith, h, length-take j journey₀, o .within)))),
         )
 
-  pub open-fits : {journey : List ℕ} (i : ℕ) {end : ℕ} → Opening N (table T) written count journey₀ journey i end → 0 < i
+  pub open-fits : {journey : List ℕ} (i : ℕ) {end : ℕ} → LeftToOpen N (table T) written count journey₀ journey i end → 0 < i
       → RowFitsBefore N T (i - 1) end journey
   open-fits zero o l = absurd (omega arith)
   open-fits {journey} (suc j) {end} o l =
       let z : suc j - 1 ≡ j = omega arith in subst (λ (k : ℕ). RowFitsBefore N T k end journey) (sym z) (fits-at o)
 
-  pub open-turn : {journey : List ℕ} (i : ℕ) {end begin : ℕ} {journey′ : List ℕ} → Opening N (table T) written count journey₀ journey i end → 0 < i
-      → LegsBefore N (table T) (getD journey (i - 1) 0) end journey begin journey′ → Opening N (table T) written count journey₀ journey′ (i - 1) begin
+  pub open-turn : {journey : List ℕ} (i : ℕ) {end begin : ℕ} {journey′ : List ℕ} → LeftToOpen N (table T) written count journey₀ journey i end
+      → 0 < i → LegsBefore N (table T) (getD journey (i - 1) 0) end journey begin journey′
+      → LeftToOpen N (table T) written count journey₀ journey′ (i - 1) begin
   open-turn zero o l b = absurd (omega arith)
   open-turn {journey} (suc j) {end} {begin} {journey′} o l b =
       let z : suc j - 1 ≡ j = omega arith in
-      subst (λ (k : ℕ). Opening N (table T) written count journey₀ journey′ k begin) (sym z)
+      subst (λ (k : ℕ). LeftToOpen N (table T) written count journey₀ journey′ k begin) (sym z)
       (turn-at o (subst (λ (k : ℕ). LegsBefore N (table T) (getD journey k 0) end journey begin journey′) z b))
 
-  pub open-done : {journey : List ℕ} (i : ℕ) {end : ℕ} → Opening N (table T) written count journey₀ journey i end → i ≤ 0
+  pub open-done : {journey : List ℕ} (i : ℕ) {end : ℕ} → LeftToOpen N (table T) written count journey₀ journey i end → i ≤ 0
       → journey ≡ opened-all N (table T) (take written journey₀) ++ drop count journey₀
   open-done {journey} zero o l = ap (λ (k : ℕ). drop k journey) (sym (o .ends)) ∙ o .behind
   open-done (suc j) o l = absurd (omega arith)

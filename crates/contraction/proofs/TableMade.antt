@@ -3,17 +3,16 @@
 use mathlib.Core.Path.{_≡_, refl, sym, ap, subst, _∙_}
 use mathlib.Core.Logic.{inl, inr}
 use mathlib.Core.List.{List, [], _∷_, _++_}
-use Prim.Native.Nat.{ℕ, _-_, _<_, _≤_}
+use Prim.Native.Nat.{ℕ, _≤_}
 use native.Mathlib.Omega.{arith}
-use lib.ListN.{length, getD, take, replicate, List·getD-append}
-use lib.Seq.{length-take-le, getD-take, ext-getD}
+use lib.ListN.{length}
+use lib.Seq.{length-take-le}
 use Rattle.network.specs.declared.answer.Answer.{Answer}
 use Rattle.network.specs.declared.rows.Row.{Row}
 use Rattle.network.specs.Network.{Network, nodes, Sized, Sound}
 use Rattle.network.specs.Sheet.{Sheet}
-use Rattle.network.specs.Rows.{Columns, Even, no-row, shortcut, table, RowsSized, SoundTable}
+use Rattle.network.specs.Rows.{Columns, table, RowsSized, SoundTable}
 use Rattle.network.specs.Refusal.{Rule, Refused, Passed, sizes, entries-order, shortcut-rows, sheet-rules, question}
-use Rattle.network.proofs.RowLaws.{table-length, table-at, row-≡}
 use Rattle.network.proofs.Checking.{passed-sound}
 use Rattle.network.proofs.Unique.{Single, each-single}
 use Rattle.search.specs.Orders.{work-rooms, plain-order, rows-order}
@@ -22,54 +21,9 @@ use Rattle.contraction.specs.Contraction.{Prepared}
 use Rattle.contraction.specs.Answers.{Fits, Holds, PreparedInto, refuses, exceeds, prepares, prepare-order}
 use Rattle.contraction.specs.Preparing.{front}
 use Rattle.contraction.proofs.PreparedSound.{prepared-sound}
+use Rattle.contraction.proofs.ColumnLaws.{front-even, holds-front}
 
--- the first rows of columns -----------------------------------------------------------------------------------------------------------------------
-
-module _ {T : Columns} (v : Even T) (k : ℕ) (l : k ≤ length (T .tails)) where
-  column-length : (xs : List ℕ) → length xs ≡ length (T .tails) → length (take k xs) ≡ k
-  column-length xs e = length-take-le k xs (omega arith)
-
-  front-length : length (front k T .tails) ≡ k
-  front-length = column-length (T .tails) refl
-
-  front-even : Even (front k T)
-  front-even = record {
-    heads-even = column-length (T .heads) (v .heads-even) ∙ sym front-length;
-    modes-even = column-length (T .modes) (v .modes-even) ∙ sym front-length;
-    lengths-even = column-length (T .lengths) (v .lengths-even) ∙ sym front-length;
-    counts-even = column-length (T .counts) (v .counts-even) ∙ sym front-length;
-    firsts-even = column-length (T .firsts) (v .firsts-even) ∙ sym front-length;
-    seconds-even = column-length (T .seconds) (v .seconds-even) ∙ sym front-length;
-  }
-
-  front-at : (i : ℕ) → i < k → shortcut (front k T) i ≡ shortcut T i
-  front-at i h = row-≡
-      (getD-take k (T .tails) i 0 h)
-      (getD-take k (T .heads) i 0 h)
-      (getD-take k (T .modes) i 0 h)
-      (getD-take k (T .lengths) i 0 h)
-      (getD-take k (T .counts) i 0 h)
-      (getD-take k (T .firsts) i 0 h)
-      (getD-take k (T .seconds) i 0 h)
-
--- the shortcuts in front of the lent rows are the table of so many rows
-front-table : {T : Columns} {lent : ℕ} {ss : List Row} → Holds T lent ss → length ss ≤ lent → table (front (length ss) T) ≡ ss
-front-table {T} {lent} {ss} h l = ext-getD no-row (table (front (length ss) T)) ss long
-    (λ i m. let n : i < length ss = omega (arith, m, long) in
-    table-at (front-even (h .even) (length ss) inside) i
-    ∙ front-at (h .even) (length ss) inside i n
-    ∙ sym (table-at (h .even) i)
-    ∙ ap (λ (x : List Row). getD x i no-row) (h .shows)
-    ∙ List·getD-append ss (replicate (lent - length ss) no-row) no-row i n)
-  where
-    inside : length ss ≤ length (T .tails)
-    inside = omega (arith, h .size, l)
-
-    long : length (table (front (length ss) T)) ≡ length ss
-    long = table-length (front (length ss) T) ∙ front-length (h .even) (length ss) inside
-
--- a rule that is kept may be left out -------------------------------------------------------------------------------------------------------------
-
+-- a rule that is kept may be left out
 refused-without : (rule : Rule) → Single rule → rule .Kept → (before behind : List Rule) (n p : ℕ) → Refused (before ++ (rule ∷ behind)) n p
     → Refused (before ++ behind) n p
 refused-without rule s k [] behind n p (inl (e, b)) = absurd (s .not-both k p b)
@@ -86,7 +40,7 @@ refused-sizes : (A B : Type 0) (others : List Rule) (n p : ℕ) → B → Refuse
 refused-sizes A B others n p b (inl (e, (z, f))) = inl (e, (z, λ a. f (a, b)))
 refused-sizes A B others n p b (inr (k, r)) = inr (k .0, r)
 
--- the table that preparation made -----------------------------------------------------------------------------------------------------------------
+-- the table that preparation made
 
 -- T holds the shortcuts of N, and keeps what rules 1 and 10 ask of rows
 pub record Made (N : Network) (T : Columns) : Type 0 where
@@ -101,8 +55,8 @@ made-front {N} {T} {lent} {ss} s p f h = record {
   sound = s;
   prepared = subst (Prepared N) (sym e) p;
   sized = record {
-    even = front-even (h .even) (length ss) inside;
-    few-rows = omega (arith, f .few-rows, front-length (h .even) (length ss) inside);
+    even = front-even (length ss) (h .even);
+    few-rows = omega (arith, f .few-rows, length-take-le (length ss) (T .tails) inside);
   };
   sound-table = subst (SoundTable N) (sym e) (prepared-sound s p (f .few-rows));
 }
@@ -111,7 +65,7 @@ made-front {N} {T} {lent} {ss} s p f h = record {
     inside = omega (arith, h .size, f .rows-lent)
 
     e : table (front (length ss) T) ≡ ss
-    e = front-table h (f .rows-lent)
+    e = holds-front h (f .rows-lent)
 
 pub table-made : {N : Network} {T T′ : Columns} {wide wide′ narrow narrow′ : List ℕ} {p : Answer}
     → PreparedInto N T T′ wide wide′ narrow narrow′ p → p .number ≡ 0 → Made N (front (p .count) T′)

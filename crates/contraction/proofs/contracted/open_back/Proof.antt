@@ -2,13 +2,13 @@
 use native.Mathlib.Omega.{arith}
 use Rattle.network.specs.Network.{network}
 use Rattle.network.specs.Rows.{columns, table}
-use Rattle.contraction.proofs.RowsInPlace.{Opening, open-start, open-fits, open-turn, open-done}
+use Rattle.contraction.proofs.RowsInPlace.{LeftToOpen, open-start, open-fits, open-turn, open-done}
 use Rattle.contraction.proofs.contracted.open_back.Statement.{statement}
 use Rattle.contraction.proofs.contracted.open_back.Tie as tie
 
 abbrev Inv-loop : tie.InvT-loop
 Inv-loop node-modes node-ranks tails heads modes lengths shortcut-tails shortcut-heads shortcut-modes shortcut-lengths shortcut-counts shortcut-firsts shortcut-seconds written count journey₀ i₀ end₀ journey i end =
-    Opening (network node-modes node-ranks tails heads modes lengths) (table (columns shortcut-tails shortcut-heads shortcut-modes shortcut-lengths shortcut-counts shortcut-firsts shortcut-seconds)) written count journey₀ journey i end
+    LeftToOpen (network node-modes node-ranks tails heads modes lengths) (table (columns shortcut-tails shortcut-heads shortcut-modes shortcut-lengths shortcut-counts shortcut-firsts shortcut-seconds)) written count journey₀ journey i end
 
 abbrev μ-loop : tie.MeasureT-loop
 μ-loop node-modes node-ranks tails heads modes lengths shortcut-tails shortcut-heads shortcut-modes shortcut-lengths shortcut-counts shortcut-firsts shortcut-seconds written count journey₀ i₀ end₀ journey i end =
