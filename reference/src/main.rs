@@ -50,7 +50,7 @@ const USAGE: &str = "\
 reference: a second opinion on journeys
 
   make --seed S [--kind K] [--text]     a card from a seed, to standard output
-       kinds: small medium large extreme damaged any (default any),
+       kinds: small medium large town extreme damaged any (default any),
        or the name of one extreme card; `make --names` lists those
   answer [CARD]                         what `journeys` must print for the card
   judge CARD WRITTEN [--seed S]         judge what `journeys` wrote for the card

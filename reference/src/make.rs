@@ -1,13 +1,14 @@
 //! Cards from a seed. The same seed and kind give the same card everywhere.
 
 use crate::card::{of_network, of_sheet, write, Record};
+use crate::city::{city, sheets as city_sheets};
 use crate::damage::damage;
 use crate::extremes;
 use crate::rng::Rng;
 use crate::sheets;
 use crate::towns;
 
-pub const KINDS: [&str; 6] = ["small", "medium", "large", "extreme", "damaged", "any"];
+pub const KINDS: [&str; 7] = ["small", "medium", "large", "town", "extreme", "damaged", "any"];
 
 /// `None` for an unknown kind. The name of an extreme card is a kind too.
 pub fn make(seed: u64, kind: &str) -> Option<Vec<u8>> {
@@ -16,6 +17,7 @@ pub fn make(seed: u64, kind: &str) -> Option<Vec<u8>> {
         "small" => Some(random_card(&mut rng, 1, 10, 12)),
         "medium" => Some(random_card(&mut rng, 11, 80, 20)),
         "large" => Some(random_card(&mut rng, 81, 500, 8)),
+        "town" => Some(town(&mut rng)),
         "extreme" => extreme(seed),
         "damaged" => {
             let kind = rng.pick(&["small", "small", "small", "medium", "extreme"]);
@@ -67,6 +69,23 @@ fn random_card(rng: &mut Rng, low: usize, high: usize, questions: usize) -> Vec<
             if rng.chance(25) {
                 to = rng.pick(&[size as u16, 65_535]);
             }
+            records.push(Record::Question { from, to });
+        }
+    }
+    records.push(Record::End);
+    write(&records)
+}
+
+/// A card without fault: a town of 500 nodes, and ten questions for each of its
+/// two sheets, from a street to a street.
+fn town(rng: &mut Rng) -> Vec<u8> {
+    let network = city(rng, 500);
+    let streets = network.nodes.iter().filter(|node| node.mode == 1).count();
+    let mut records = of_network(&network);
+    for sheet in city_sheets() {
+        records.extend(of_sheet(&sheet));
+        for _ in 0..10 {
+            let (from, to) = (rng.below(streets) as u16, rng.below(streets) as u16);
             records.push(Record::Question { from, to });
         }
     }

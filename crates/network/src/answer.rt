@@ -2,6 +2,8 @@
 ghost use mathlib.Core.Path.{_≡_};
 ghost use Rattle.network.specs.Answers.{shown};
 
+// Laid out as C lays it out: the exported functions hand it over by value.
+#[repr(C)]
 pub struct Answer {
     pub number: u8,
     pub place: u64,

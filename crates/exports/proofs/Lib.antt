@@ -1,0 +1,3 @@
+-- What the promises of the C interface allow, and what its proofs rest on.
+pub mod OneResult
+pub mod SheetLaws

@@ -1,0 +1,2 @@
+-- What the C interface promises beyond the core.
+pub mod Calls

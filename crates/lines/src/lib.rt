@@ -1,0 +1,2 @@
+// The lines that the unit writes.
+pub mod text;
