@@ -12,8 +12,8 @@ use Rattle.network.specs.Sheet.{sheet-of}
 use Rattle.network.proofs.Unique.{sheet-unique}
 use Rattle.search.specs.Answers.{legs-of}
 use Rattle.search.proofs.SearchUnique.{Determined}
-use Rattle.contraction.proofs.PrepareUnique.{prepare-unique}
-use Rattle.contraction.proofs.ContractedUnique.{contracted-unique}
+use Rattle.preparation.proofs.PrepareUnique.{prepare-unique}
+use Rattle.legs.proofs.ContractedUnique.{contracted-unique}
 use Rattle.card.specs.declared.reader.Reader.{Reader}
 use Rattle.lines.specs.Text.{line-of}
 use Rattle.card.specs.Reading.{Lent, holding, done, Told, Refusing, HeadTaken, SheetTaken, states-with, StateTaken, SimplyTaken, a-head, a-sheet, a-state, the-end, unknown, readied, counted, Closed, NetworkTaken, stage-after, Asked, Taken, of-network, question, other, Fed, Finished}

@@ -16,8 +16,8 @@ use Rattle.network.specs.Network.{Network, nodes, edges}
 use Rattle.network.specs.Sheet.{Sheet, sheet-of, Counted}
 use Rattle.network.specs.Rows.{Columns, Even, table}
 use Rattle.network.specs.Refusal.{Passed, network-order, sheet-order}
-use Rattle.contraction.specs.Contraction.{Prepared}
-use Rattle.contraction.specs.Answers.{Fits}
+use Rattle.preparation.specs.Contraction.{Prepared}
+use Rattle.preparation.specs.Answers.{Fits}
 use Rattle.card.specs.declared.reader.Reader.{Reader}
 use Rattle.card.specs.Records.{Record, bytes-of}
 use Rattle.lines.specs.Text.{refusal-line}

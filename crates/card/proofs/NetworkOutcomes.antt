@@ -18,7 +18,7 @@ use Rattle.network.specs.Refusal.{Refused, entries-order}
 use Rattle.network.proofs.RowLaws.{table-length, row-≡, table-at}
 use Rattle.search.specs.Orders.{Roomy}
 use Rattle.search.proofs.RefusalLaws.{refused-avoids}
-use Rattle.contraction.specs.Answers.{prepare-order, Holds, PreparedInto, refuses, exceeds, prepares}
+use Rattle.preparation.specs.Answers.{prepare-order, Holds, PreparedInto, refuses, exceeds, prepares}
 use Rattle.card.specs.declared.reader.Reader.{Reader}
 use Rattle.card.specs.Records.{Record, node, edge, bytes-of}
 use Rattle.card.specs.Stream.{Stage, building, ready, HeadFine, with-node, with-edge, Brings, a-node, an-edge, Whole, grows, accepts, bad-network, too-many}

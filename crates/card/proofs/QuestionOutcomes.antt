@@ -21,9 +21,9 @@ use Rattle.network.proofs.Checking.{passed-sound}
 use Rattle.network.proofs.RowLaws.{table-length}
 use Rattle.network.proofs.Unique.{Singles, whole-single, each-single, sheet-single}
 use Rattle.search.specs.Orders.{work-rooms, rows-order}
-use Rattle.contraction.specs.Answers.{Travelled, no-room, found, Contracted, refuses, searches}
-use Rattle.contraction.specs.Answers
-use Rattle.contraction.proofs.PreparedSound.{prepared-sound}
+use Rattle.legs.specs.Answers.{Travelled, no-room, found, Contracted, refuses, searches}
+use Rattle.legs.specs.Answers
+use Rattle.preparation.proofs.PreparedSound.{prepared-sound}
 use Rattle.contraction.proofs.UpDownExact.{least-plain, none-same}
 use Rattle.card.specs.declared.reader.Reader.{Reader}
 use Rattle.card.specs.Records.{question, bytes-of}

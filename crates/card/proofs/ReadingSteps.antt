@@ -11,7 +11,8 @@ use Rattle.network.specs.Rows.{Columns, columns}
 use Rattle.network.specs.Sheet.{Sheet, sheet-of}
 use Rattle.network.specs.Refusal.{sheet-order}
 use Rattle.network.specs.Answers.{shown, Checked}
-use Rattle.contraction.specs.Answers.{PreparedInto, Contracted}
+use Rattle.legs.specs.Answers.{Contracted}
+use Rattle.preparation.specs.Answers.{PreparedInto}
 use Rattle.card.specs.declared.reader.Reader.{Reader}
 use Rattle.lines.specs.Text.{line-of}
 use Rattle.card.specs.Reading.{Lent, holding, done, byte-at, word, size, Misplaced, Told, Refusing, HeadFits, head-nodes, head-edges, HeadTaken, fits, too-large, listed, StateTaken, NetworkKind, node-stored, edge-stored, stored, counted, NetworkIn, front-network, front-columns, Closed, NetworkTaken, stage-after, Asked, Taken, Fed, SimplyTaken, node-room, edge-room}

@@ -13,7 +13,8 @@ use Rattle.network.specs.Sheet.{sheet-of, no-state, Counted}
 use Rattle.network.specs.Rows.{Columns, columns}
 use Rattle.network.specs.Refusal.{sheet-order}
 use Rattle.network.specs.Answers.{shown, Checked}
-use Rattle.contraction.specs.Answers.{PreparedInto, Contracted}
+use Rattle.legs.specs.Answers.{Contracted}
+use Rattle.preparation.specs.Answers.{PreparedInto}
 use Rattle.card.specs.declared.reader.Reader.{Reader}
 use Rattle.lines.specs.Text.{line-of, LineWritten}
 use Rattle.card.specs.Stream.{HeadFine, blank}

@@ -12,8 +12,8 @@ use Rattle.network.specs.Network.{Network, network, nodes, edges}
 use Rattle.network.specs.Sheet.{Sheet, sheet-of, no-state, Counted}
 use Rattle.network.specs.Journey.{weight, Journey, Least, None}
 use Rattle.network.specs.Refusal.{Refused, Passed, network-order, sheet-order, question-order}
-use Rattle.contraction.specs.Contraction.{Prepared}
-use Rattle.contraction.specs.Answers.{Fits}
+use Rattle.preparation.specs.Contraction.{Prepared}
+use Rattle.preparation.specs.Answers.{Fits}
 use Rattle.card.specs.Records.{Record, head, node, edge, sheet, state, question, end, bytes-of, Cut}
 use Rattle.lines.specs.Text.{journey-line, refusal-line}
 

@@ -2,7 +2,7 @@
 ghost use Rattle.network.specs.Network.{network};
 ghost use Rattle.network.specs.Rows.{columns};
 ghost use Rattle.network.specs.Sheet.{sheet-of};
-ghost use Rattle.contraction.specs.Answers.{Contracted};
+ghost use Rattle.legs.specs.Answers.{Contracted};
 ghost use Rattle.card.specs.Reading.{front-network, front-columns, Asked};
 use crate::fronts::front8;
 use crate::fronts::front16;

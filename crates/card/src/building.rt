@@ -4,7 +4,7 @@ ghost use lib.ListN.{set};
 ghost use Rattle.network.specs.Answers.{Decides};
 ghost use Rattle.network.specs.Network.{network};
 ghost use Rattle.network.specs.Rows.{columns};
-ghost use Rattle.contraction.specs.Answers.{PreparedInto};
+ghost use Rattle.preparation.specs.Answers.{PreparedInto};
 ghost use Rattle.card.specs.Reading.{word, byte-at, entering, stored, counted, NetworkIn, front-network, readied, Closed, NetworkTaken};
 use crate::fronts::front8;
 use crate::fronts::front16;

@@ -10,7 +10,7 @@ use Rattle.network.specs.Rows.{rows}
 use Rattle.network.specs.Journey.{Journey, Least, None}
 use Rattle.network.specs.Refusal.{Refused, Passed}
 use Rattle.search.specs.Orders.{room-order, plain-order}
-use Rattle.contraction.specs.Contraction.{Prepared}
+use Rattle.preparation.specs.Contraction.{Prepared}
 
 -- what 01 says comes out of a question
 pub data Outcome : Type 0 where

@@ -12,10 +12,11 @@ use Rattle.network.specs.Rows.{Columns}
 use Rattle.network.specs.Journey.{weight, Journey}
 use Rattle.search.specs.Orders.{plain-order}
 use Rattle.search.specs.Answers.{Answered}
-use Rattle.contraction.specs.Answers.{PreparedInto, no-journey, no-room, found, Contracted, refuses, searches}
-use Rattle.contraction.specs.Preparing.{front}
-use Rattle.contraction.proofs.RowsInPlace.{refused-not-zero}
-use Rattle.contraction.proofs.TableMade.{table-made}
+use Rattle.legs.specs.Answers.{no-journey, no-room, found, Contracted, searches, refuses}
+use Rattle.preparation.specs.Answers.{PreparedInto}
+use Rattle.preparation.specs.Preparing.{front}
+use Rattle.legs.proofs.RowsInPlace.{refused-not-zero}
+use Rattle.preparation.proofs.TableMade.{table-made}
 use Rattle.contraction.proofs.ContractedPlain.{plain-same}
 
 -- The journey room tells how the traveller goes: its front holds edges that are an accepted path of the answer's time and count, as many as it

@@ -16,12 +16,12 @@ use Rattle.network.proofs.Unique.{whole-single, each-single, sheet-single, ques
 use Rattle.search.specs.Orders.{plain-order}
 use Rattle.search.specs.Answers.{legs-of, Sought, no-journey, no-room, found, Answered, refuses, searches}
 use Rattle.search.proofs.SearchUnique.{answered-determined}
-use Rattle.contraction.specs.Answers.{Travelled, Contracted}
-use Rattle.contraction.specs.Answers
+use Rattle.legs.specs.Answers.{Travelled, Contracted}
+use Rattle.legs.specs.Answers
 use Rattle.contraction.proofs.UpDownExact.{least-plain, none-same}
-use Rattle.contraction.proofs.RowsInPlace.{rows-fewer}
-use Rattle.contraction.proofs.ContractedUnique.{legs-refused, legs-too-many, legs-found}
-use Rattle.contraction.proofs.TableMade.{Made, refused-plain, passed-plain}
+use Rattle.legs.proofs.RowsInPlace.{rows-fewer}
+use Rattle.legs.proofs.ContractedUnique.{legs-refused, legs-too-many, legs-found}
+use Rattle.preparation.proofs.TableMade.{Made, refused-plain, passed-plain}
 
 -- the promise, word for word
 module _ {N : Network} {T : Columns} (m : Made N T) {S : Sheet} {from to : ℕ} {journey journey′ : List ℕ} {a : Answer} where

@@ -17,9 +17,9 @@ use Rattle.network.proofs.WeightLaws.{⊕-time}
 use Rattle.network.proofs.OrderLaws.{before-dec}
 use Rattle.network.proofs.Pigeonhole.{AllBelow}
 use Rattle.search.specs.UpDown.{UpDown, UpDownJourney}
-use Rattle.contraction.proofs.WeightMore.{weight-dec}
-use Rattle.contraction.proofs.TableLaws.{EachSound, fine-row}
-use Rattle.contraction.proofs.OpeningLaws.{way-rows}
+use Rattle.preparation.proofs.WeightMore.{weight-dec}
+use Rattle.legs.proofs.TableLaws.{EachSound, fine-row}
+use Rattle.legs.proofs.OpeningLaws.{way-rows}
 
 dec-map : {A B : Type 0} → (A → B) → (B → A) → Dec A → Dec B
 dec-map f g (yes a) = yes (f a)

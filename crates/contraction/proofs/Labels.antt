@@ -15,7 +15,7 @@ use Rattle.network.specs.Sheet.{Sheet, entry, Bit, MayRide, MayChange, Initial,
 use Rattle.network.specs.Rows.{row, rows, cost}
 use Rattle.network.specs.Journey.{Way, stay, ride, change, along, weight, Journey, Least, None}
 use Rattle.network.proofs.WeightLaws.{weight-≡, _≼_, below, level, ≼-refl, ≼-trans, ≼-not-lighter, ≼-mono, lighter-≼-trans}
-use Rattle.contraction.specs.Contraction.{Standing, Through, here, on, Avoids}
+use Rattle.preparation.specs.Contraction.{Standing, Through, here, on, Avoids}
 use Rattle.contraction.proofs.Tests.{
   Test,
   Sure,

@@ -12,7 +12,7 @@ use Rattle.network.specs.Network.{Network, nodes, node-mode, rank}
 use Rattle.network.specs.Rows.{row, rows, cost}
 use Rattle.network.specs.Journey.{weight}
 use Rattle.network.proofs.RowLaws.{row-≡}
-use Rattle.contraction.specs.Contraction.{
+use Rattle.preparation.specs.Contraction.{
   Through,
   here,
   on,
@@ -37,7 +37,7 @@ use Rattle.contraction.specs.Contraction.{
   turn,
   Prepared,
 }
-use Rattle.contraction.proofs.OneTurn.{made-of, made-cost}
+use Rattle.preparation.proofs.OneTurn.{made-of, made-cost}
 use Rattle.contraction.proofs.Tests.{
   Test,
   Sure,

@@ -15,17 +15,17 @@ use Rattle.network.specs.Journey.{Way, stay, ride, change, weight, Journey, Lea
 use Rattle.network.proofs.WeightLaws.{_≼_, ≼-refl, ≡-≼, ≼-trans, ≼-mono, ⊕-assoc, zero-≼, ≼-lighter, not-lighter-≼, ≼-antisym}
 use Rattle.network.proofs.OrderLaws.{core-level}
 use Rattle.search.specs.UpDown.{UpDown, UpDownJourney}
-use Rattle.contraction.specs.Contraction.{Adds, Contracts, done, turn, Prepared}
-use Rattle.contraction.specs.Opening.{opened-all}
-use Rattle.contraction.proofs.PreparedUnique.{Front, contracts-front}
-use Rattle.contraction.proofs.OpeningLaws.{along-append, from-way, join-way, other-way, journey-opened}
-use Rattle.contraction.proofs.WeightMore.{≼-behind}
-use Rattle.contraction.proofs.Walks.{Walk, weaken, from, join, single, unsnoc, map-walk}
-use Rattle.contraction.proofs.RemainingTurns.{Gone, start-left, left-still}
-use Rattle.contraction.proofs.StandingRows.{Stands, Rides, stands-fine, stands-more, weight-cons, Edges, row-edges, start-stands, AtTurn}
+use Rattle.preparation.specs.Contraction.{Adds, Contracts, done, turn, Prepared}
+use Rattle.legs.specs.Opening.{opened-all}
+use Rattle.preparation.proofs.PreparedUnique.{Front, contracts-front}
+use Rattle.legs.proofs.OpeningLaws.{along-append, from-way, join-way, other-way, journey-opened}
+use Rattle.preparation.proofs.WeightMore.{≼-behind}
+use Rattle.preparation.proofs.Walks.{Walk, weaken, from, join, single, unsnoc, map-walk}
+use Rattle.preparation.proofs.RemainingTurns.{Gone, start-left, left-still}
+use Rattle.preparation.proofs.StandingRows.{Stands, Rides, stands-fine, stands-more, weight-cons, Edges, row-edges, start-stands, AtTurn}
 use Rattle.contraction.proofs.Deciding.{Weighing, dec-weighing}
-use Rattle.contraction.proofs.OneTurn.{no-link, keep, rides-kept}
-use Rattle.contraction.proofs.PreparedSound.{Stage, stage-start, stage-turn, prepared-each}
+use Rattle.preparation.proofs.OneTurn.{no-link, keep, rides-kept}
+use Rattle.preparation.proofs.PreparedSound.{Stage, stage-start, stage-turn, prepared-each}
 
 -- a row of mode m takes state q to state j
 abbrev Move : Sheet → ℕ → ℕ → ℕ → Type 0

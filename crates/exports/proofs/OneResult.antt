@@ -12,11 +12,11 @@ use Rattle.network.specs.Answers.{Checked}
 use Rattle.network.proofs.Unique.{network-unique}
 use Rattle.search.specs.Answers.{legs-of}
 use Rattle.search.proofs.SearchUnique.{Determined, plain-search-unique}
-use Rattle.contraction.specs.Answers.{PreparedInto}
-use Rattle.contraction.specs.Opened.{OpenedInto}
-use Rattle.contraction.proofs.PrepareUnique.{prepare-unique}
-use Rattle.contraction.proofs.ContractedUnique.{contracted-unique}
-use Rattle.contraction.proofs.OpenUnique.{opened-into-unique}
+use Rattle.preparation.specs.Answers.{PreparedInto}
+use Rattle.legs.specs.Opened.{OpenedInto}
+use Rattle.preparation.proofs.PrepareUnique.{prepare-unique}
+use Rattle.legs.proofs.ContractedUnique.{contracted-unique}
+use Rattle.legs.proofs.OpenUnique.{opened-into-unique}
 use Rattle.exports.specs.Calls.{SheetRefused, PlainCalled, ContractedCalled}
 use Rattle.exports.specs.Calls
 

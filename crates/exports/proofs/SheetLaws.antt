@@ -12,7 +12,7 @@ use Rattle.network.specs.Journey.{Journey}
 use Rattle.network.specs.Answers.{shown}
 use Rattle.search.specs.Orders.{plain-order}
 use Rattle.search.specs.Answers.{legs-of, Answered}
-use Rattle.contraction.specs.Answers.{Contracted}
+use Rattle.legs.specs.Answers.{Contracted}
 use Rattle.exports.specs.Calls.{state-read, states-read, SheetRefused, PlainCalled, ContractedCalled}
 use Rattle.exports.specs.Calls
 

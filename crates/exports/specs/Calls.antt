@@ -13,7 +13,7 @@ use Rattle.network.specs.Journey.{Journey}
 use Rattle.network.specs.Answers.{shown}
 use Rattle.search.specs.Orders.{plain-order}
 use Rattle.search.specs.Answers.{Untouched, legs-of, Answered}
-use Rattle.contraction.specs.Answers.{Contracted}
+use Rattle.legs.specs.Answers.{Contracted}
 
 -- state q of a sheet: three bytes, modes, next and ends, and the states behind each other
 abbrev pub state-read : List ℕ → ℕ → State
