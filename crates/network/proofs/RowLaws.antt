@@ -1,10 +1,11 @@
 -- Laws of rows: where a row stands, what the columns hold of it, and what holds of every row of a sound table.
 use mathlib.Core.Path.{_≡_, refl, sym, ap, subst, subst₂, subst₃, _∙_}
-use mathlib.Core.Bool.{Bool, cond}
+use mathlib.Core.Bool.{Bool, true, false, cond}
 use mathlib.Core.List.{List, []}
 use Prim.Native.Nat.{ℕ, zero, suc, _+_, _-_, _<_, _≤_}
 use native.Mathlib.Omega.{arith}
 use native.Mathlib.Decide.{decLt}
+use lib.Dec.{ltb}
 use lib.ListN.{length, getD, List·getD-eq-default}
 use borrow.Author.Tests.{lt-ltb, le-ltb}
 use Rattle.network.specs.declared.weight.Weight.{Weight}
@@ -26,7 +27,7 @@ use Rattle.network.specs.Rows.{
   SoundRow,
   SoundTable,
 }
-use Rattle.network.specs.Answers.{Decides, row-read}
+use Rattle.network.specs.Answers.{Decides, row-read, tail-read}
 use Rattle.network.proofs.WeightLaws.{⊕-time, ⊕-edges, sum-held, lighter-irrefl, neither-lighter}
 use Rattle.network.proofs.Scanning.{decides-map}
 
@@ -87,6 +88,14 @@ read-row {T} v N r = go (decLt r (edges N))
         ap (λ (b : Bool). cond b (edge-row N r) (shortcut T (r - edges N))) (le-ltb r (edges N) (omega arith))
         ∙ sym (table-at v (r - edges N))
         ∙ sym (row-short N (table T) r (omega arith))
+
+-- the tail that is read alone is the row's
+pub tail-read-row : (N : Network) (T : Columns) (r : ℕ) → tail-read (N .tails) (T .tails) r ≡ row-read N T r .tail
+tail-read-row N T r = go (ltb r (edges N))
+  where
+    go : (b : Bool) → cond b (getD (N .tails) r 0) (getD (T .tails) (r - edges N) 0) ≡ cond b (edge-row N r) (shortcut T (r - edges N)) .tail
+    go true = refl
+    go false = refl
 
 -- the test of a row x, read from even columns, with the children a and b
 module _ (N : Network) (T : Columns) (v : Even T) (r : ℕ) {x : Row} (ex : x ≡ row-read N T r) where

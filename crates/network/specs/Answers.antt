@@ -28,3 +28,7 @@ pub data Checked (rules : List Rule) (a : Answer) : Type 0 where
 -- row r as the columns hold it, whatever their lengths: an edge, then a shortcut, and 0 past a column's end
 abbrev pub row-read : Network → Columns → ℕ → Row
 row-read N T r = cond (ltb r (edges N)) (edge-row N r) (shortcut T (r - edges N))
+
+-- its tail alone
+abbrev pub tail-read : (tails shortcut-tails : List ℕ) → ℕ → ℕ
+tail-read tails shortcut-tails r = cond (ltb r (length tails)) (getD tails r 0) (getD shortcut-tails (r - length tails) 0)

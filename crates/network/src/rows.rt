@@ -1,7 +1,7 @@
 // Rows: the edges, then the shortcuts.
 ghost use mathlib.Core.Path.{_≡_};
 ghost use mathlib.Core.List.{[]};
-ghost use Rattle.network.specs.Answers.{row-read};
+ghost use Rattle.network.specs.Answers.{row-read, tail-read};
 ghost use Rattle.network.specs.Network.{network};
 ghost use Rattle.network.specs.Rows.{columns, cost, edge-row, shortcut};
 use crate::weight::Weight;
@@ -101,4 +101,14 @@ pub fn row_at(
         shortcut_seconds,
         i,
     )
+}
+
+// The tail of the row r, read alone: whoever looks for the rows from a node reads no more of all others.
+pub fn tail_at(tails: &[u16], shortcut_tails: &[u16], r: usize) -> u16
+    ensures { λ t. ⌜ t ≡ tail-read (now (tails .entry)) (now («shortcut_tails» .entry)) r ⌝ }
+{
+    if r < tails.len() {
+        return at16(tails, r);
+    }
+    at16(shortcut_tails, r - tails.len())
 }

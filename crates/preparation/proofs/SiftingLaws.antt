@@ -5,7 +5,7 @@ use mathlib.Core.Bool.{Bool, true, false}
 use mathlib.Core.List.{List}
 use Prim.Native.Nat.{ℕ, _+_, _*_, _<_, _≤_}
 use native.Mathlib.Omega.{arith}
-use native.Mathlib.Decide.{decLt}
+use native.Mathlib.Decide.{decLt, ℕ-discrete}
 use lib.ListN.{length, getD, set, length-set, List·getD-eq-default}
 use lib.Seq.{getD-set-same, getD-set-other}
 use Rattle.network.specs.declared.weight.Weight.{Weight}
@@ -15,7 +15,7 @@ use Rattle.network.specs.Network.{Network, nodes, node-mode}
 use Rattle.network.specs.Rows.{Columns, row, cost, table}
 use Rattle.network.specs.Answers.{Decides}
 use Rattle.network.proofs.Scanning.{decided-true, decided-false, decides-map}
-use Rattle.network.proofs.WeightLaws.{_≼_, ≼-trans, ≡-≼, ≼-not-lighter, not-lighter-≼, lighter-≼, weight-≡, ⊕-time, ⊕-edges, sum-held}
+use Rattle.network.proofs.WeightLaws.{_≼_, ≼-trans, ≡-≼, ≼-not-lighter, ≼-lighter, not-lighter-≼, lighter-≼, lighter-irrefl, weight-≡, ⊕-time, ⊕-edges, sum-held}
 use Rattle.network.proofs.RowLaws.{row-≡, read-row, row-fine, table-length}
 use Rattle.search.specs.Witness.{Turn, node-count, row-count, told-at, Found, Witnessed, unfit, searched}
 use Rattle.preparation.specs.Contraction.{LeastRow, CalledFor}
@@ -30,12 +30,14 @@ use Rattle.preparation.specs.Sifting.{
   SumNoted,
   Candidate,
   SumOf,
+  BoundsSums,
   Heaviest,
   SumsNoted,
   Prevails,
   Sifted,
   SiftedAt,
   SiftedAll,
+  BoundsMore,
   Weighed,
   TestFits,
 }
@@ -365,6 +367,35 @@ module _ {n : ℕ} {around : Bool} {wide narrow₀ narrow : List ℕ} {w : ℕ} 
   sieving-done l = let e : w ≡ n = omega (arith, s .in-order) in subst (λ (i : ℕ). SiftedAll n around i wide narrow₀ narrow) e (s .so-far)
 
 -- a search, and then the sifting
+-- the bound of the sums that are still marked
+module _ {n w : ℕ} {wide narrow : List ℕ} {b : Weight} where
+  pub bounds-unmarked : {m : ℕ} → m ≡ getD narrow (mark-at n w) 0 → (m ≡ 1 → ⊥) → BoundsMore n wide narrow w b b
+  bounds-unmarked e n = record { no-less = lighter-irrefl; bounds-sum = λ m l. n (e ∙ m) }
+
+  pub bounds-marked : {s b′ : Weight} → s ≡ sum-at wide narrow n w → Heavier b s b′ → BoundsMore n wide narrow w b b′
+  bounds-marked {b′ = b′} e h = record {
+    no-less = ≼-not-lighter (heavier-first h);
+    bounds-sum = λ m l. ≼-not-lighter (heavier-second h) (subst (Lighter b′) (sym e) l);
+  }
+
+pub record Bounding (n : ℕ) (wide narrow : List ℕ) (b : Weight) (w : ℕ) : Type 0 where
+  pub in-order : w ≤ n
+  pub so-far : BoundsSums n wide narrow w b
+
+pub bounding-start : {n : ℕ} {wide narrow : List ℕ} {b : Weight} → Bounding n wide narrow b 0
+bounding-start = record { in-order = omega arith; so-far = λ x l. absurd (omega arith) }
+
+module _ {n w : ℕ} {wide narrow : List ℕ} {b : Weight} (s : Bounding n wide narrow b w) where
+  pub bounding-more : {b′ : Weight} → w < n → BoundsMore n wide narrow w b b′ → Bounding n wide narrow b′ (w + 1)
+  bounding-more {b′} l m = record { in-order = omega arith; so-far = λ x h. go x h (ℕ-discrete x w) }
+    where
+      go : (x : ℕ) → x < w + 1 → Dec (x ≡ w) → IsMarked narrow n x → Lighter b′ (sum-at wide narrow n x) → ⊥
+      go x h (yes e) = subst (λ (y : ℕ). IsMarked narrow n y → Lighter b′ (sum-at wide narrow n y) → ⊥) (sym e) (m .bounds-sum)
+      go x h (no d) = λ k j. s .so-far x (omega (arith, h, d)) k (≼-lighter (not-lighter-≼ (m .no-less)) j)
+
+  pub bounding-done : n ≤ w → BoundsSums n wide narrow n b
+  bounding-done l x h = s .so-far x (omega arith)
+
 pub searched-rooms : {Q : Turn} {u : ℕ} {bound : Weight} (wide narrow : List ℕ) {wide′ narrow′ : List ℕ} {a : Bool}
     → TestFits (node-count Q) u (length wide) (length narrow) → row-count Q ≤ 4096 → Witnessed Q u bound wide narrow wide′ narrow′ a
     → Found Q u bound wide narrow wide′ narrow′
@@ -476,9 +507,9 @@ module _ {N : Network} {T : Columns} {v u : ℕ} (wide narrow : List ℕ) (turn 
 
   module _ {wide₁ narrow₁ : List ℕ} {bound : Weight}
       (noted : SumsNoted (cost-read N T) (nodes N) u (cost-read N T (getD narrow (into-at (nodes N) u) 0)) (nodes N) wide narrow wide₁ narrow₁ bound)
-      {wide₂ narrow₂ wide′ narrow′ : List ℕ}
-      (once : Weighed (meaning.search-of N T v false) u bound (nodes N) wide₁ narrow₁ wide₂ narrow₂)
-      (twice : Weighed (meaning.search-of N T v true) u bound (nodes N) wide₂ narrow₂ wide′ narrow′) where
+      {wide₂ narrow₂ wide′ narrow′ : List ℕ} {left : Weight}
+      (once : Weighed (meaning.search-of N T v false) u bound (nodes N) wide₁ narrow₁ wide₂ narrow₂) (bounds : BoundsSums (nodes N) wide₂ narrow₂ (nodes N) left)
+      (twice : Weighed (meaning.search-of N T v true) u left (nodes N) wide₂ narrow₂ wide′ narrow′) where
     slot-same : (i : ℕ) → 2 * nodes N ≤ i → i < 4 * nodes N → getD narrow′ i 0 ≡ getD narrow i 0
     slot-same i a b = twice .slots-same i a b ∙ once .slots-same i a b ∙ noted .narrow-front i b
 
@@ -520,6 +551,10 @@ module _ {N : Network} {T : Columns} {v u : ℕ} (wide narrow : List ℕ) (turn 
       enough : Lighter bound total → ⊥
       enough k = noted .heaviest .none-heavier w l m (subst (Lighter bound) (sym is-sum) k)
 
+      -- and of the second search, where the mark is left
+      enough-left : getD narrow₂ (mark-at (nodes N) w) 0 ≡ 1 → Lighter left total → ⊥
+      enough-left o k = bounds w l o (subst (Lighter left) (sym (sum-second w ∙ is-sum)) k)
+
       abbrev told : Weight
       told = once .each w l .told
 
@@ -557,21 +592,19 @@ module _ {N : Network} {T : Columns} {v u : ℕ} (wide narrow : List ℕ) (turn 
       met : Marked N (table T) v u w (getD narrow′ (mark-at (nodes N) w) 0) (told-row w)
       met = go first-verdict
         where
-          next : (Lighter told total → ⊥) → Verdict (Prevails true told′ total) (getD narrow′ (mark-at (nodes N) w) 0)
+          next : (Lighter told total → ⊥) → (Lighter left total → ⊥) → Verdict (Prevails true told′ total) (getD narrow′ (mark-at (nodes N) w) 0)
               → Marked N (table T) v u w (getD narrow′ (mark-at (nodes N) w) 0) (told-row w)
-          next n (kept h o) = Marked.called o (subst (CalledFor N (table T) v) (sym is-made)
-              (meaning.called-for N T (turn .sound) (turn .even) (turn .sound-table) v into-least G enough (once .each w l .reported)
+          next n k (kept h o) = Marked.called o (subst (CalledFor N (table T) v) (sym is-made)
+              (meaning.called-for N T (turn .sound) (turn .even) (turn .sound-table) v into-least G enough (once .each w l .reported) k
               (twice .each w l .reported) (λ e. apart (sym e)) n (prevails-alone h)))
-          next n (lost h o) = Marked.not-called o (λ y C a b. h (Prevails.alone refl
-              (meaning.told-heavier N T (turn .sound) (turn .even) (turn .sound-table) v into-least G enough (once .each w l .reported)
-              (twice .each w l .reported) C a b)))
+          next n k (lost h o) = Marked.not-called o (λ y C a b. h (Prevails.alone refl
+              (meaning.told-heavier N T (turn .sound) (turn .even) (turn .sound-table) v into-least G (twice .each w l .reported) C a b)))
 
           go : Verdict (Prevails false told total) (getD narrow₂ (mark-at (nodes N) w) 0)
               → Marked N (table T) v u w (getD narrow′ (mark-at (nodes N) w) 0) (told-row w)
-          go (kept h o) = next (prevails-least h) (second-verdict o)
+          go (kept h o) = next (prevails-least h) (enough-left o) (second-verdict o)
           go (lost h o) = Marked.not-called (sifted-zero (twice .each w l .sifted) o) (λ y C a b. h (Prevails.least refl
-              (meaning.told-not-lighter N T (turn .sound) (turn .even) (turn .sound-table) v into-least G enough (once .each w l .reported)
-              (twice .each w l .reported) C a b)))
+              (meaning.told-not-lighter N T (turn .sound) (turn .even) (turn .sound-table) v into-least G (once .each w l .reported) C a b)))
 
     marks : (w : ℕ) → w < nodes N → Marked N (table T) v u w (getD narrow′ (mark-at (nodes N) w) 0) (told-row w)
     marks w l = go (noted .each w l) (near .out w l)
@@ -603,12 +636,14 @@ module _ {N : Network} {T : Columns} {v u : ℕ} (wide narrow : List ℕ) (turn 
     }
 
   -- the same, where the searches count the nodes by their ranks
-  pub tested : {wide₁ narrow₁ : List ℕ} {bound : Weight} {wide₂ narrow₂ wide′ narrow′ : List ℕ}
+  pub tested : {wide₁ narrow₁ : List ℕ} {bound left : Weight} {wide₂ narrow₂ wide′ narrow′ : List ℕ}
       → SumsNoted (cost-read N T) (nodes N) u (cost-read N T (getD narrow (into-at (nodes N) u) 0)) (nodes N) wide narrow wide₁ narrow₁ bound
       → Weighed (meaning.search-of N T v false) u bound (length (N .node-ranks)) wide₁ narrow₁ wide₂ narrow₂
-      → Weighed (meaning.search-of N T v true) u bound (length (N .node-ranks)) wide₂ narrow₂ wide′ narrow′
+      → BoundsSums (nodes N) wide₂ narrow₂ (nodes N) left
+      → Weighed (meaning.search-of N T v true) u left (length (N .node-ranks)) wide₂ narrow₂ wide′ narrow′
       → Tested N (table T) v u wide narrow wide′ narrow′
-  tested {wide₁} {narrow₁} {bound} {wide₂} {narrow₂} {wide′} {narrow′} noted once twice =
+  tested {wide₁} {narrow₁} {bound} {left} {wide₂} {narrow₂} {wide′} {narrow′} noted once bounds twice =
       tested-rooms noted
       (subst (λ (n : ℕ). Weighed (meaning.search-of N T v false) u bound n wide₁ narrow₁ wide₂ narrow₂) (turn .sound .sized .ranks-even) once)
-      (subst (λ (n : ℕ). Weighed (meaning.search-of N T v true) u bound n wide₂ narrow₂ wide′ narrow′) (turn .sound .sized .ranks-even) twice)
+      bounds
+      (subst (λ (n : ℕ). Weighed (meaning.search-of N T v true) u left n wide₂ narrow₂ wide′ narrow′) (turn .sound .sized .ranks-even) twice)

@@ -149,63 +149,53 @@ module _ (N : Network) (T : Columns) (s : Sound N) (even : Even T) (t : SoundTab
         is-g : x .second ≡ g
         is-g = least-row-unique (subst (λ (z : ℕ). LeastRow N (table T) v v z (x .second)) b (C .out)) G
 
-    module _ {bound told told′ : Weight} (enough : Lighter bound sum → ⊥) (first : Reported (search-of N T v false) u bound w told)
-        (second : Reported (search-of N T v true) u bound w told′) where
+    -- what a shortcut that is called for says of the searches, each made up to a bound of its own
+    module _ {x : Row} {bound told : Weight} where
+      pub told-not-lighter : Reported (search-of N T v false) u bound w told → CalledFor N (table T) v x → x .tail ≡ u → x .head ≡ w
+          → Lighter told sum → ⊥
+      told-not-lighter (within q _) C a b l =
+          C .least (q .rows) (subst₂ (λ y z. Through N (table T) v y z (q .rows)) (sym a) (sym b) (path-through false (q .path)))
+          (subst₂ Lighter (sym (q .weighs) ∙ weight-same false (q .rows)) (sym (called-cost C a b)) l)
+      told-not-lighter (beyond _ e) C a b l = ≼-not-lighter (held-≼-none sum-held) (subst (λ z. Lighter z sum) e l)
+
+      pub told-heavier : Reported (search-of N T v true) u bound w told → CalledFor N (table T) v x → x .tail ≡ u → x .head ≡ w → Lighter sum told
+      told-heavier (within q _) C a b =
+          subst₂ Lighter (called-cost C a b) (sym (weight-same true (q .rows)) ∙ q .weighs)
+          (C .alone (q .rows) (subst₂ (λ y z. Through N (table T) v y z (q .rows)) (sym a) (sym b) (path-through true (q .path)))
+          (path-avoids (q .path)))
+      told-heavier (beyond _ e) C a b = subst (Lighter sum) (sym e) (sooner (omega (arith, sum-time)))
+
+    module _ {bound told : Weight} (enough : Lighter bound sum → ⊥) where
       -- no way is lighter than the sum
-      none-lighter : (Lighter told sum → ⊥) → (rs : List ℕ) → Through N (table T) v u w rs → Lighter (weight N (table T) rs) sum → ⊥
-      none-lighter n rs p l = go first
-        where
-          go : Reported (search-of N T v false) u bound w told → ⊥
-          go (within q _) =
-              n (≼-lighter (not-lighter-≼ (λ k. q .least rs (through-path p) (subst (λ z. Lighter z told) (sym (weight-same false rs)) k))) l)
-          go (beyond far _) =
-              enough (lighter-trans (subst (Lighter bound) (weight-same false rs) (far rs (through-path p))) l)
+      none-lighter : Reported (search-of N T v false) u bound w told → (Lighter told sum → ⊥) → (rs : List ℕ) → Through N (table T) v u w rs
+          → Lighter (weight N (table T) rs) sum → ⊥
+      none-lighter (within q _) n rs p l =
+          n (≼-lighter (not-lighter-≼ (λ k. q .least rs (through-path p) (subst (λ z. Lighter z told) (sym (weight-same false rs)) k))) l)
+      none-lighter (beyond far _) n rs p l = enough (lighter-trans (subst (Lighter bound) (weight-same false rs) (far rs (through-path p))) l)
 
       -- every way around v is heavier
-      each-heavier : Lighter sum told′ → (rs : List ℕ) → Through N (table T) v u w rs → Avoids N (table T) v rs
-          → Lighter sum (weight N (table T) rs)
-      each-heavier n rs p a = go second
-        where
-          go : Reported (search-of N T v true) u bound w told′ → Lighter sum (weight N (table T) rs)
-          go (within q _) =
-              lighter-≼-trans n (not-lighter-≼ (λ k. q .least rs (avoiding-path p a) (subst (λ z. Lighter z told′) (sym (weight-same true rs)) k)))
-          go (beyond far _) =
-              ≼-lighter (not-lighter-≼ enough) (subst (Lighter bound) (weight-same true rs) (far rs (avoiding-path p a)))
+      each-heavier : Reported (search-of N T v true) u bound w told → Lighter sum told → (rs : List ℕ) → Through N (table T) v u w rs
+          → Avoids N (table T) v rs → Lighter sum (weight N (table T) rs)
+      each-heavier (within q _) n rs p a =
+          lighter-≼-trans n (not-lighter-≼ (λ k. q .least rs (avoiding-path p a) (subst (λ z. Lighter z told) (sym (weight-same true rs)) k)))
+      each-heavier (beyond far _) n rs p a =
+          ≼-lighter (not-lighter-≼ enough) (subst (Lighter bound) (weight-same true rs) (far rs (avoiding-path p a)))
 
-      pub called-for : (u ≡ w → ⊥) → (Lighter told sum → ⊥) → Lighter sum told′ → CalledFor N (table T) v (made-of N (table T) v u w f g)
-      called-for apart n m = record {
-        apart = apart;
-        into = F;
-        out = G;
-        mode-kept = refl;
-        sums = made-cost N (table T) v u w f g;
-        least = λ rs p l. none-lighter n rs p (subst (Lighter (weight N (table T) rs)) costs l);
-        alone = λ rs p a. subst (λ z. Lighter z (weight N (table T) rs)) (sym costs) (each-heavier m rs p a);
-      }
-        where
-          costs : cost (made-of N (table T) v u w f g) ≡ sum
-          costs = made-cost N (table T) v u w f g
-
-      -- what a shortcut that is called for says of the searches
-      module _ {x : Row} (C : CalledFor N (table T) v x) (a : x .tail ≡ u) (b : x .head ≡ w) where
-        pub told-not-lighter : Lighter told sum → ⊥
-        told-not-lighter l = go first
-          where
-            go : Reported (search-of N T v false) u bound w told → ⊥
-            go (within q _) =
-                C .least (q .rows) (subst₂ (λ y z. Through N (table T) v y z (q .rows)) (sym a) (sym b) (path-through false (q .path)))
-                (subst₂ Lighter (sym (q .weighs) ∙ weight-same false (q .rows)) (sym (called-cost C a b)) l)
-            go (beyond _ e) = ≼-not-lighter (held-≼-none sum-held) (subst (λ z. Lighter z sum) e l)
-
-        pub told-heavier : Lighter sum told′
-        told-heavier = go second
-          where
-            go : Reported (search-of N T v true) u bound w told′ → Lighter sum told′
-            go (within q _) =
-                subst₂ Lighter (called-cost C a b) (sym (weight-same true (q .rows)) ∙ q .weighs)
-                (C .alone (q .rows) (subst₂ (λ y z. Through N (table T) v y z (q .rows)) (sym a) (sym b) (path-through true (q .path)))
-                (path-avoids (q .path)))
-            go (beyond _ e) = subst (Lighter sum) (sym e) (sooner (omega (arith, sum-time)))
+    pub called-for : {bound left told told′ : Weight} → (Lighter bound sum → ⊥) → Reported (search-of N T v false) u bound w told
+        → (Lighter left sum → ⊥) → Reported (search-of N T v true) u left w told′ → (u ≡ w → ⊥) → (Lighter told sum → ⊥) → Lighter sum told′
+        → CalledFor N (table T) v (made-of N (table T) v u w f g)
+    called-for enough first enough′ second apart n m = record {
+      apart = apart;
+      into = F;
+      out = G;
+      mode-kept = refl;
+      sums = made-cost N (table T) v u w f g;
+      least = λ rs p l. none-lighter enough first n rs p (subst (Lighter (weight N (table T) rs)) costs l);
+      alone = λ rs p a. subst (λ z. Lighter z (weight N (table T) rs)) (sym costs) (each-heavier enough′ second m rs p a);
+    }
+      where
+        costs : cost (made-of N (table T) v u w f g) ≡ sum
+        costs = made-cost N (table T) v u w f g
 
   -- no shortcut leads from a node back to it, and none where no row leads on from v
   pub none-back : {u : ℕ} {x : Row} → CalledFor N (table T) v x → x .tail ≡ u → x .head ≡ u → ⊥

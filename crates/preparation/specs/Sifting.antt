@@ -61,9 +61,13 @@ pub record SumOf (n : ℕ) (wide narrow : List ℕ) (k : ℕ) (b : Weight) : Typ
   pub marked : IsMarked narrow n node
   pub weighs : sum-at wide narrow n node ≡ b
 
+-- no marked node below k has a sum that is heavier than b
+abbrev pub BoundsSums : (n : ℕ) (wide narrow : List ℕ) (k : ℕ) (b : Weight) → Type 0
+BoundsSums n wide narrow k b = (w : ℕ) → w < k → IsMarked narrow n w → Lighter b (sum-at wide narrow n w) → ⊥
+
 -- b is the heaviest sum of the marked nodes below k, or the empty path's weight where none is heavier
 pub record Heaviest (n : ℕ) (wide narrow : List ℕ) (k : ℕ) (b : Weight) : Type 0 where
-  pub none-heavier : (w : ℕ) → w < k → IsMarked narrow n w → Lighter b (sum-at wide narrow n w) → ⊥
+  pub none-heavier : BoundsSums n wide narrow k b
   pub is-one : (b ≡ zero-weight) ⊎ SumOf n wide narrow k b
 
 -- the first k nodes have been looked at
@@ -107,6 +111,11 @@ pub record SiftedAll (n : ℕ) (around : Bool) (k : ℕ) (wide narrow narrow′ 
   pub behind : (i : ℕ) → 4 * n + k ≤ i → getD narrow′ i 0 ≡ getD narrow i 0
   pub each : (w : ℕ) → w < k
       → Sifted around (told-at wide narrow w) (sum-at wide narrow n w) (getD narrow (mark-at n w) 0) (getD narrow′ (mark-at n w) 0)
+
+-- b′ is no lighter than b, nor than the sum of the node w where it is marked
+pub record BoundsMore (n : ℕ) (wide narrow : List ℕ) (w : ℕ) (b b′ : Weight) : Type 0 where
+  pub no-less : Lighter b′ b → ⊥
+  pub bounds-sum : IsMarked narrow n w → Lighter b′ (sum-at wide narrow n w) → ⊥
 
 -- the mark of the node w has been sifted by what a search from a node told of w
 pub record Judged (Q : Turn) (from : ℕ) (bound : Weight) (w : ℕ) (sum : Weight) (mark mark′ : ℕ) : Type 0 where

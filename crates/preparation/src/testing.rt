@@ -9,7 +9,7 @@ ghost use Rattle.network.specs.Rows.{columns, table};
 ghost use Rattle.search.specs.Witness.{turn-of, node-count, row-count};
 ghost use Rattle.preparation.specs.Preparing.{InTurn, Neighbours, Tested, into-at};
 ghost use Rattle.preparation.specs.Sifting.{cost-read, weight-at, Heavier, SumWritten, SumNoted, SumsNoted, TestFits};
-ghost use Rattle.preparation.specs.Sifting.{Prevails, SiftedAt, SiftedAll, Weighed};
+ghost use Rattle.preparation.specs.Sifting.{BoundsSums, Prevails, SiftedAt, SiftedAll, BoundsMore, Weighed};
 use crate::neighbours::NO_ROW;
 use columns::at32;
 use columns::at64;
@@ -239,6 +239,32 @@ fn sift(nodes: usize, around: bool, wide: &[u64], narrow: &mut [u32])
     }
 }
 
+// The heavier of the bound and, where the node w is marked, its sum.
+fn bound_mark(nodes: usize, bound: Weight, w: usize, wide: &[u64], narrow: &[u32]) -> Weight
+    requires { ⌜ (nodes ≤ 512) × (w < nodes) ⌝ }
+    ensures { λ r. ⌜ BoundsMore nodes (now (wide .entry)) (now (narrow .entry)) w bound r ⌝ }
+{
+    if at32(narrow, 4 * nodes + w) != 1 {
+        return bound;
+    }
+    let sum = weight_at(wide, narrow, nodes + w, 5 * nodes + w);
+    heavier(bound, sum)
+}
+
+// The heaviest sum that is still marked: no witness is searched for beyond it.
+fn bound_marks(nodes: usize, wide: &[u64], narrow: &[u32]) -> Weight
+    requires { ⌜ nodes ≤ 512 ⌝ }
+    ensures { λ r. ⌜ BoundsSums nodes (now (wide .entry)) (now (narrow .entry)) nodes r ⌝ }
+{
+    let mut bound = Weight::ZERO;
+    let mut w = 0;
+    while w < nodes {
+        bound = bound_mark(nodes, bound, w, wide, narrow);
+        w += 1;
+    }
+    bound
+}
+
 // Searches from u up to the bound, around v or not, and sifts the marks by what the search told.
 fn weigh(
     node_ranks: &[u16],
@@ -349,6 +375,7 @@ pub(crate) fn test_from(
         wide,
         narrow,
     );
+    let left = bound_marks(node_modes.len(), wide, narrow);
     weigh(
         node_ranks,
         tails,
@@ -365,7 +392,7 @@ pub(crate) fn test_from(
         v,
         true,
         u,
-        bound,
+        left,
         wide,
         narrow,
     );

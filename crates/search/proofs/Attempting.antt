@@ -13,9 +13,9 @@ use Rattle.network.specs.Weight.{_⊕_, Sum}
 use Rattle.network.specs.Network.{Network, nodes}
 use Rattle.network.specs.Sheet.{Sheet}
 use Rattle.network.specs.Rows.{Columns, row, rows, cost, table}
-use Rattle.network.specs.Answers.{row-read}
+use Rattle.network.specs.Answers.{row-read, tail-read}
 use Rattle.network.proofs.WeightLaws.{sum-held}
-use Rattle.network.proofs.RowLaws.{read-row, table-length, row-fine}
+use Rattle.network.proofs.RowLaws.{read-row, tail-read-row, table-length, row-fine}
 use Rattle.search.specs.Graph.{Laws}
 use Rattle.search.specs.Places.{place, state-of, phase-of, Shift, Homeward, Useful}
 use Rattle.search.specs.Labels.{Falls, asked, Hinted, SameLabels, Worked, Offered}
@@ -34,12 +34,15 @@ module _ (plain : Bool) (N : Network) (T : Columns) (S : Sheet) (from to p : ℕ
   read : x ≡ row N (table T) r
   read = ex ∙ read-row (ready .table-sound .even) N r
 
-  pub attempt-elsewhere : {narrow : List ℕ} → (x .tail ≡ p / 16 → ⊥) → Hinted N (table T) (Falls plain (N .node-ranks)) to narrow
+  pub attempt-elsewhere : {narrow : List ℕ} {t : ℕ} → t ≡ tail-read (N .tails) (T .tails) r → (t ≡ p / 16 → ⊥) → Hinted N (table T) (Falls plain (N .node-ranks)) to narrow
       → Worked plain N (table T) S from to p w (λ s v. s ≡ r) wide narrow wide narrow
-  attempt-elsewhere n h = worked-still plain N (table T) S from to p w same-labels-refl h
-      (λ s v e u. n (ap (λ y. y .tail) read ∙ ap (λ y. row N (table T) y .tail) (sym e) ∙ u .move .leaves))
+  attempt-elsewhere et n h = worked-still plain N (table T) S from to p w same-labels-refl h
+      (λ s v e u. n (et ∙ tail-read-row N T r ∙ ap (λ y. y .tail) (sym ex ∙ read) ∙ ap (λ y. row N (table T) y .tail) (sym e) ∙ u .move .leaves))
 
-  module _ (leaves : x .tail ≡ p / 16) where
+  module _ {t : ℕ} (et : t ≡ tail-read (N .tails) (T .tails) r) (here : t ≡ p / 16) where
+    leaves : x .tail ≡ p / 16
+    leaves = ap (λ y. y .tail) ex ∙ sym (et ∙ tail-read-row N T r) ∙ here
+
     at-tail : row N (table T) r .tail ≡ p / 16
     at-tail = ap (λ y. y .tail) (sym read) ∙ leaves
 

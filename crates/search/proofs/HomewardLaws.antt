@@ -11,8 +11,8 @@ use Rattle.network.specs.declared.rows.Row.{Row}
 use Rattle.network.specs.Order.{Before, lower-rank, same-rank}
 use Rattle.network.specs.Network.{Network, nodes}
 use Rattle.network.specs.Rows.{Columns, row, rows, table}
-use Rattle.network.specs.Answers.{Decides, row-read}
-use Rattle.network.proofs.RowLaws.{read-row, row-fine, table-length}
+use Rattle.network.specs.Answers.{Decides, row-read, tail-read}
+use Rattle.network.proofs.RowLaws.{read-row, tail-read-row, row-fine, table-length}
 use Rattle.network.proofs.Scanning.{decided-true, decided-false}
 use Rattle.search.specs.Labels.{word, hint, Falls, Hinted, SameLabels}
 use Rattle.search.specs.Places.{Homeward, home, by-row}
@@ -109,11 +109,16 @@ module _ {N : Network} {ss : List Row} {Down : ℕ → ℕ → Type 0} {to x : �
 pub few-rows : {N : Network} {T : Columns} → Table N T → length (N .tails) + length (T .tails) ≤ 4096
 few-rows {T = T} t = omega (arith, t .sound-table .few, table-length T)
 
+-- the row r, of which only the tail k was read
+module _ {N : Network} {T : Columns} (t : Table N T) (r : ℕ) {k : ℕ} (e : k ≡ tail-read (N .tails) (T .tails) r) where
+  tail-there : k ≡ row N (table T) r .tail
+  tail-there = e ∙ tail-read-row N T r ∙ ap (λ (z : Row). z .tail) (read-row (t .even) N r)
+
+  pub other-tail : {Down : ℕ → ℕ → Type 0} {to x : ℕ} → (k ≡ x → ⊥) → RowHome N (table T) Down to x r false
+  other-tail n = leads-not refl (λ a d h. n (tail-there ∙ a))
+
 -- a row w that was read
 module _ {N : Network} {T : Columns} (t : Table N T) (r : ℕ) {w : Row} (e : w ≡ row-read N T r) where
-  tail-read : w .tail ≡ row N (table T) r .tail
-  tail-read = ap (λ (z : Row). z .tail) (e ∙ read-row (t .even) N r)
-
   head-read : w .head ≡ row N (table T) r .head
   head-read = ap (λ (z : Row). z .head) (e ∙ read-row (t .even) N r)
 
@@ -121,17 +126,14 @@ module _ {N : Network} {T : Columns} (t : Table N T) (r : ℕ) {w : Row} (e : w 
   read-head-in l = omega (arith, head-read, row-fine (t .sound) (t .sound-table) r (omega (arith, table-length T)) .head-in)
 
   module _ {Down : ℕ → ℕ → Type 0} {to x : ℕ} where
-    pub other-tail : (w .tail ≡ x → ⊥) → RowHome N (table T) Down to x r false
-    other-tail n = leads-not refl (λ a d h. n (tail-read ∙ a))
-
     pub not-down : {d : Bool} → Decides d (Down (w .head) x) → d ≡ false → RowHome N (table T) Down to x r false
     not-down f z = leads-not refl (λ a d h. decided-false f z (subst (λ (y : ℕ). Down y x) (sym head-read) d))
 
-    pub down-home : {d : Bool} → Decides d (Down (w .head) x) → d ≡ true → r < length (N .tails) + length (T .tails) → w .tail ≡ x
-        → (b : Bool) → Decides b (Homeward N (table T) Down to (w .head)) → RowHome N (table T) Down to x r b
-    down-home f z l a true h =
-        leads refl (by-row {r = r} (omega (arith, table-length T)) (sym tail-read ∙ a) (sym head-read) (decided-true f z) h)
-    down-home f z l a false h = leads-not refl (λ c d g. h (subst (Homeward N (table T) Down to) (sym head-read) g))
+    pub down-home : {d : Bool} → Decides d (Down (w .head) x) → d ≡ true → r < length (N .tails) + length (T .tails)
+        → {k : ℕ} → k ≡ tail-read (N .tails) (T .tails) r → k ≡ x → (b : Bool) → Decides b (Homeward N (table T) Down to (w .head)) → RowHome N (table T) Down to x r b
+    down-home f z l ek a true h =
+        leads refl (by-row {r = r} (omega (arith, table-length T)) (sym (tail-there t r ek) ∙ a) (sym head-read) (decided-true f z) h)
+    down-home f z l ek a false h = leads-not refl (λ c d g. h (subst (Homeward N (table T) Down to) (sym head-read) g))
 
 -- the rows below r lead not, and the rooms are as they were but for the hints, which are true
 pub record Looking (N : Network) (T : Columns) (Down : ℕ → ℕ → Type 0) (to x : ℕ) (narrow₀ narrow : List ℕ) (r : ℕ) : Type 0 where

@@ -11,6 +11,8 @@ use Rattle.network.specs.declared.weight.Weight.{Weight}
 use Rattle.network.specs.declared.rows.Row.{Row}
 use Rattle.network.specs.Weight.{zero-weight, _⊕_, Lighter, Sum}
 use Rattle.network.specs.Rows.{cost}
+use Rattle.network.specs.Answers.{tail-read}
+use Rattle.network.proofs.RowLaws.{tail-read-row}
 use Rattle.network.proofs.WeightLaws.{_≼_, ≼-refl, ≼-trans, ≼-mono, ≼-less, ≡-≼, ≼-not-lighter, not-≼-lighter, not-lighter-≼, lighter-≼, weight-≡, sum-held}
 use Rattle.search.specs.Graph.{Laws, Same, Better}
 use Rattle.search.specs.Labels.{label, word, mark, row-before, word-by}
@@ -259,12 +261,14 @@ module _ {Q : Turn} {u : ℕ} (w : Weight) {r x : ℕ} {new : Weight} (wide narr
 at-row : (Q : Turn) {x : Row} (r : ℕ) (P : Row → Type 0) {s : ℕ} → x ≡ ridden Q r → s ≡ r → P (ridden Q s) → P x
 at-row Q r P ex e h = subst P (ap (ridden Q) e ∙ sym ex) h
 
+-- a row whose tail, read alone, is another node
+pub attempt-elsewhere : {Q : Turn} {u : ℕ} {w : Weight} {r : ℕ} (wide narrow : List ℕ) {t : ℕ} → t ≡ tail-read (Q .roads .tails) (Q .shortcuts .tails) r
+    → (t ≡ u → ⊥) → Attempted Q u w (λ s y. s ≡ r) wide narrow wide narrow
+attempt-elsewhere {Q} {u} {r = r} wide narrow et n =
+    attempted-none (λ s y e a. n (et ∙ tail-read-row (Q .roads) (Q .shortcuts) r ∙ at-row Q r (λ z. z .tail ≡ u) refl e (a .leaves)))
+
 -- what becomes of the row x, which is row r, tried from u
 module _ {Q : Turn} {u : ℕ} {w : Weight} {r : ℕ} (wide narrow : List ℕ) {x : Row} (ex : x ≡ ridden Q r) where
-  -- it leaves another node
-  pub attempt-elsewhere : (x .tail ≡ u → ⊥) → Attempted Q u w (λ s y. s ≡ r) wide narrow wide narrow
-  attempt-elsewhere n = attempted-none (λ s y e a. n (at-row Q r (λ z. z .tail ≡ u) ex e (a .leaves)))
-
   -- it is a link
   pub attempt-link : x .mode ≡ 0 → Attempted Q u w (λ s y. s ≡ r) wide narrow wide narrow
   attempt-link z = attempted-none (λ s y e a. at-row Q r (λ z. z .mode ≡ 0 → ⊥) ex e (a .no-link) z)
@@ -279,11 +283,13 @@ module _ {Q : Turn} {u : ℕ} {w : Weight} {r : ℕ} (wide narrow : List ℕ) {x
       (subst (λ (z : ℕ). Open (Q .roads .node-ranks) (Q .node) (Q .around) z) (sym (a .arrives)) (a .head-open))))
 
   -- it is a ride
-  pub attempt-ride : {c new : Weight} {wide′ narrow′ : List ℕ} → Spacious Q (length wide) (length narrow) → r < row-count Q → Addable Q w
-      → x .tail ≡ u → (x .mode ≡ 0 → ⊥) → Open (Q .roads .node-ranks) (Q .node) (Q .around) (x .tail)
+  pub attempt-ride : {c new : Weight} {wide′ narrow′ : List ℕ} {t : ℕ} → Spacious Q (length wide) (length narrow) → r < row-count Q → Addable Q w
+      → t ≡ tail-read (Q .roads .tails) (Q .shortcuts .tails) r → t ≡ u → (x .mode ≡ 0 → ⊥) → Open (Q .roads .node-ranks) (Q .node) (Q .around) (x .tail)
       → Open (Q .roads .node-ranks) (Q .node) (Q .around) (x .head) → c ≡ cost x → Sum w c new
       → Offer (x .head) new r wide narrow wide′ narrow′ → Attempted Q u w (λ s y. s ≡ r) wide narrow wide′ narrow′
-  attempt-ride {c} {new} room there light et nm ot oh ec sum = attempted-offer w wide narrow
+  attempt-ride {c} {new} room there light er eu nm ot oh ec sum =
+      let et : x .tail ≡ u = ap (λ z. z .tail) ex ∙ sym (er ∙ tail-read-row (Q .roads) (Q .shortcuts) r) ∙ eu in
+      attempted-offer w wide narrow
       (record {
         there = there;
         no-link = subst (λ z. z .mode ≡ 0 → ⊥) ex nm;

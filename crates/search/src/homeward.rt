@@ -12,6 +12,7 @@ use crate::moves::descends;
 use columns::at32;
 use columns::put32;
 use network::rows::row_at;
+use network::rows::tail_at;
 
 // 1: it can; 0: it cannot; else it is not known yet.
 fn hint_at(narrow: &[u32], v: usize) -> u32
@@ -63,6 +64,9 @@ fn row_home(
     ensures { λ _. ⌜ SameLabels (nodes (network (now («node_modes» .entry)) (now («node_ranks» .entry)) (now (tails .entry)) (now (heads .entry)) (now (modes .entry)) (now (lengths .entry)))) (now (narrow .entry)) (now (narrow .exit)) ⌝ }
     ensures { λ _. ⌜ Hinted (network (now («node_modes» .entry)) (now («node_ranks» .entry)) (now (tails .entry)) (now (heads .entry)) (now (modes .entry)) (now (lengths .entry))) (table (columns (now («shortcut_tails» .entry)) (now («shortcut_heads» .entry)) (now («shortcut_modes» .entry)) (now («shortcut_lengths» .entry)) (now («shortcut_counts» .entry)) (now («shortcut_firsts» .entry)) (now («shortcut_seconds» .entry)))) (Falls plain (now («node_ranks» .entry))) to (now (narrow .exit)) ⌝ }
 {
+    if tail_at(tails, shortcut_tails, r) as usize != x {
+        return false;
+    }
     let row = row_at(
         tails,
         heads,
@@ -77,11 +81,7 @@ fn row_home(
         shortcut_seconds,
         r,
     );
-    let tail = row.tail as usize;
     let head = row.head as usize;
-    if tail != x {
-        return false;
-    }
     if descends(plain, node_ranks, head, x) {
         return homeward(
             plain,

@@ -13,6 +13,7 @@ use crate::labels::settle;
 use crate::moves::arrive;
 use crate::moves::descends;
 use network::rows::row_at;
+use network::rows::tail_at;
 use network::sheet::State;
 use network::weight::Weight;
 
@@ -48,6 +49,9 @@ fn attempt(
     requires { ⌜ Hinted (network (now «node_modes») (now «node_ranks») (now tails) (now heads) (now modes) (now lengths)) (table (columns (now «shortcut_tails») (now «shortcut_heads») (now «shortcut_modes») (now «shortcut_lengths») (now «shortcut_counts») (now «shortcut_firsts») (now «shortcut_seconds»))) (Falls plain (now «node_ranks»)) to (now narrow) ⌝ }
     ensures { λ _. ⌜ Worked plain (network (now («node_modes» .entry)) (now («node_ranks» .entry)) (now (tails .entry)) (now (heads .entry)) (now (modes .entry)) (now (lengths .entry))) (table (columns (now («shortcut_tails» .entry)) (now («shortcut_heads» .entry)) (now («shortcut_modes» .entry)) (now («shortcut_lengths» .entry)) (now («shortcut_counts» .entry)) (now («shortcut_firsts» .entry)) (now («shortcut_seconds» .entry)))) (sheet-of sheet states) from to p w (λ s v. s ≡ r) (now (wide .entry)) (now (narrow .entry)) (now (wide .exit)) (now (narrow .exit)) ⌝ }
 {
+    if tail_at(tails, shortcut_tails, r) as usize != p / 16 {
+        return;
+    }
     let row = row_at(
         tails,
         heads,
@@ -65,9 +69,6 @@ fn attempt(
     let tail = row.tail as usize;
     let head = row.head as usize;
     let mode = row.mode as usize;
-    if tail != p / 16 {
-        return;
-    }
     let new = w.plus(row.cost());
     if descends(plain, node_ranks, head, tail) {
         if homeward(

@@ -15,6 +15,7 @@ use columns::put32;
 use columns::put64;
 use network::order::contracted_before;
 use network::rows::row_at;
+use network::rows::tail_at;
 use network::weight::Weight;
 
 // Whether the search can be made: few enough nodes and rows, a node to start from, and rooms that are large enough.
@@ -152,6 +153,9 @@ fn attempt(
     requires { ⌜ Addable (turn-of (now «node_ranks») (now tails) (now heads) (now modes) (now lengths) (now «shortcut_tails») (now «shortcut_heads») (now «shortcut_modes») (now «shortcut_lengths») (now «shortcut_counts») (now «shortcut_firsts») (now «shortcut_seconds») v around) w ⌝ }
     ensures { λ _. ⌜ Attempted (turn-of (now («node_ranks» .entry)) (now (tails .entry)) (now (heads .entry)) (now (modes .entry)) (now (lengths .entry)) (now («shortcut_tails» .entry)) (now («shortcut_heads» .entry)) (now («shortcut_modes» .entry)) (now («shortcut_lengths» .entry)) (now («shortcut_counts» .entry)) (now («shortcut_firsts» .entry)) (now («shortcut_seconds» .entry)) v around) u w (λ s x. s ≡ r) (now (wide .entry)) (now (narrow .entry)) (now (wide .exit)) (now (narrow .exit)) ⌝ }
 {
+    if tail_at(tails, shortcut_tails, r) as usize != u {
+        return;
+    }
     let row = row_at(
         tails,
         heads,
@@ -168,9 +172,6 @@ fn attempt(
     );
     let tail = row.tail as usize;
     let head = row.head as usize;
-    if tail != u {
-        return;
-    }
     if row.mode == 0 {
         return;
     }

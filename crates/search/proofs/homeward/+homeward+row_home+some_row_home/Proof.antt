@@ -38,6 +38,7 @@ use Rattle.search.proofs.homeward.some_row_home.Reads as some-row-home
 use Rattle.search.proofs.homeward.some_row_home.Kinds as some-row-home-kinds
 use Rattle.search.proofs.homeward.+homeward+row_home+some_row_home.Lts-some_row_home as some-row-home-lts
 use Rattle.network.proofs.rows.row_at.Reads as row-at-reads
+use Rattle.network.proofs.rows.tail_at.Reads as tail-at-reads
 use Rattle.search.proofs.homeward.hint_at.Reads as hint-at-reads
 use Rattle.search.proofs.homeward.remember.Reads as remember-reads
 use Rattle.search.proofs.moves.descends.Reads as descends-reads
@@ -213,7 +214,45 @@ homeward-returns-5 : (t : ℕ) → homeward-lts.Need-returns-5 (
 ) (homeward-at t) homeward.Post
 homeward-returns-5 t c = found-no-home (c .before .before .before .before .before .before .before .some-row-home .ensures .1 .1) (c .before .before .before .before .before .before .before .some-row-home .ensures .1 .0) (c .before .before .before .before .before .before .before .before .before .before .before .before .before .before .before .before .before .before .before .before .before .before .before .before .before .before .before .before .pre .1 .1 .0 .0) (c .before .before .before .before .before .before .before .before .before .before .before .before .before .before .before .before .before .before .before .before .before .before .before .before .before .before .before .before .pre .1 .1 .0 .1) (c .before .before .before .before .before .before .before .some-row-home .ensures .0) (c .before .before .before .before .if4 .left) (c .before .before .remember2 .ensures)
 
+row-home-tail-at-requires : (t : ℕ) → row-home-lts.Need-tail-at-requires (
+  tail-at-reads.Asked,
+  tail-at-reads.Learnt,
+  row-at-reads.Asked,
+  row-at-reads.Learnt,
+  descends-reads.Asked,
+  descends-reads.Learnt,
+  homeward-below t,
+  homeward.Post,
+) (row-home-at t) row-home.Post
+row-home-tail-at-requires t c κs = tt
+
+row-home-cast-if1 : (t : ℕ) → row-home-lts.Need-cast-if1 (
+  tail-at-reads.Asked,
+  tail-at-reads.Learnt,
+  row-at-reads.Asked,
+  row-at-reads.Learnt,
+  descends-reads.Asked,
+  descends-reads.Learnt,
+  homeward-below t,
+  homeward.Post,
+) (row-home-at t) row-home.Post
+row-home-cast-if1 t c = search needs
+
+row-home-returns : (t : ℕ) → row-home-lts.Need-returns (
+  tail-at-reads.Asked,
+  tail-at-reads.Learnt,
+  row-at-reads.Asked,
+  row-at-reads.Learnt,
+  descends-reads.Asked,
+  descends-reads.Learnt,
+  homeward-below t,
+  homeward.Post,
+) (row-home-at t) row-home.Post
+row-home-returns t c = (other-tail (c .before .before .before .before .before .before .before .before .before .before .before .before .before .before .before .before .pre .1 .0) _ (c .before .tail-at .ensures) (c .if1 .taken), (same-refl, c .before .before .before .before .before .before .before .before .before .before .before .before .before .before .before .before .pre .1 .1 .1))
+
 row-home-row-at-requires : (t : ℕ) → row-home-lts.Need-row-at-requires (
+  tail-at-reads.Asked,
+  tail-at-reads.Learnt,
   row-at-reads.Asked,
   row-at-reads.Learnt,
   descends-reads.Asked,
@@ -223,17 +262,9 @@ row-home-row-at-requires : (t : ℕ) → row-home-lts.Need-row-at-requires (
 ) (row-home-at t) row-home.Post
 row-home-row-at-requires t c κs = tt
 
-row-home-cast-tail : (t : ℕ) → row-home-lts.Need-cast-tail (
-  row-at-reads.Asked,
-  row-at-reads.Learnt,
-  descends-reads.Asked,
-  descends-reads.Learnt,
-  homeward-below t,
-  homeward.Post,
-) (row-home-at t) row-home.Post
-row-home-cast-tail t c = search needs
-
 row-home-cast-head : (t : ℕ) → row-home-lts.Need-cast-head (
+  tail-at-reads.Asked,
+  tail-at-reads.Learnt,
   row-at-reads.Asked,
   row-at-reads.Learnt,
   descends-reads.Asked,
@@ -243,17 +274,9 @@ row-home-cast-head : (t : ℕ) → row-home-lts.Need-cast-head (
 ) (row-home-at t) row-home.Post
 row-home-cast-head t c = search needs
 
-row-home-returns : (t : ℕ) → row-home-lts.Need-returns (
-  row-at-reads.Asked,
-  row-at-reads.Learnt,
-  descends-reads.Asked,
-  descends-reads.Learnt,
-  homeward-below t,
-  homeward.Post,
-) (row-home-at t) row-home.Post
-row-home-returns t c = (other-tail (c .before .before .before .before .before .before .before .before .before .before .before .before .before .before .before .before .before .before .pre .1 .0) _ (c .before .before .before .row-at .ensures) (c .if1 .taken), (same-refl, c .before .before .before .before .before .before .before .before .before .before .before .before .before .before .before .before .before .before .pre .1 .1 .1))
-
 row-home-descends-requires : (t : ℕ) → row-home-lts.Need-descends-requires (
+  tail-at-reads.Asked,
+  tail-at-reads.Learnt,
   row-at-reads.Asked,
   row-at-reads.Learnt,
   descends-reads.Asked,
@@ -264,6 +287,8 @@ row-home-descends-requires : (t : ℕ) → row-home-lts.Need-descends-requires (
 row-home-descends-requires t c κs = tt
 
 row-home-homeward-requires : (t : ℕ) → row-home-lts.Need-homeward-requires (
+  tail-at-reads.Asked,
+  tail-at-reads.Learnt,
   row-at-reads.Asked,
   row-at-reads.Learnt,
   descends-reads.Asked,
@@ -272,11 +297,13 @@ row-home-homeward-requires : (t : ℕ) → row-home-lts.Need-homeward-requires (
   homeward.Post,
 ) (row-home-at t) row-home.Post
 row-home-homeward-requires t c κs =
-    let i = read-head-in (c .before .before .before .before .before .before .before .before .before .before .before .before .before .before .before .before .before .before .before .before .before .pre .1 .0) _ (c .before .before .before .before .before .before .row-at .ensures) (c .before .before .before .before .before .before .before .before .before .before .before .before .before .before .before .before .before .before .before .before .before .pre .1 .1 .0 .2) in
-    let d = falls-key (c .before .before .before .before .before .before .before .before .before .before .before .before .before .before .before .before .before .before .before .before .before .args .plain) (c .before .before .before .before .before .before .before .before .before .before .before .before .before .before .before .before .before .before .before .before .before .args .node-ranks .now) (c .before .before .before .before .before .before .row-at .result .head) (c .before .before .before .before .before .before .before .before .before .before .before .before .before .before .before .before .before .before .before .before .before .args .x) (omega (arith, c .before .before .before .before .before .before .before .before .before .before .before .before .before .before .before .before .before .before .before .before .before .pre .1 .0 .sound .sized .few-nodes)) (decided-true (c .before .before .descends .ensures) (c .before .if2 .taken)) in
+    let i = read-head-in (c .before .before .before .before .before .before .before .before .before .before .before .before .before .before .before .before .before .before .before .before .before .pre .1 .0) _ (c .before .before .before .before .row-at .ensures) (c .before .before .before .before .before .before .before .before .before .before .before .before .before .before .before .before .before .before .before .before .before .pre .1 .1 .0 .2) in
+    let d = falls-key (c .before .before .before .before .before .before .before .before .before .before .before .before .before .before .before .before .before .before .before .before .before .args .plain) (c .before .before .before .before .before .before .before .before .before .before .before .before .before .before .before .before .before .before .before .before .before .args .node-ranks .now) (c .before .before .before .before .row-at .result .head) (c .before .before .before .before .before .before .before .before .before .before .before .before .before .before .before .before .before .before .before .before .before .args .x) (omega (arith, c .before .before .before .before .before .before .before .before .before .before .before .before .before .before .before .before .before .before .before .before .before .pre .1 .0 .sound .sized .few-nodes)) (decided-true (c .before .before .descends .ensures) (c .before .if2 .taken)) in
     (omega (arith, c .before .before .before .before .before .before .before .before .before .before .before .before .before .before .before .before .before .before .before .before .before .pre .0), (c .before .before .before .before .before .before .before .before .before .before .before .before .before .before .before .before .before .before .before .before .before .pre .1 .0, ((c .before .before .before .before .before .before .before .before .before .before .before .before .before .before .before .before .before .before .before .before .before .pre .1 .1 .0 .0, i), c .before .before .before .before .before .before .before .before .before .before .before .before .before .before .before .before .before .before .before .before .before .pre .1 .1 .1)))
 
 row-home-same-length : (t : ℕ) → row-home-lts.Need-same-length (
+  tail-at-reads.Asked,
+  tail-at-reads.Learnt,
   row-at-reads.Asked,
   row-at-reads.Learnt,
   descends-reads.Asked,
@@ -287,6 +314,8 @@ row-home-same-length : (t : ℕ) → row-home-lts.Need-same-length (
 row-home-same-length t c = c .before .before .homeward .ensures .1 .0 .size
 
 row-home-returns-2 : (t : ℕ) → row-home-lts.Need-returns-2 (
+  tail-at-reads.Asked,
+  tail-at-reads.Learnt,
   row-at-reads.Asked,
   row-at-reads.Learnt,
   descends-reads.Asked,
@@ -294,9 +323,11 @@ row-home-returns-2 : (t : ℕ) → row-home-lts.Need-returns-2 (
   homeward-below t,
   homeward.Post,
 ) (row-home-at t) row-home.Post
-row-home-returns-2 t c = (down-home (c .before .before .before .before .before .before .before .before .before .before .before .before .before .before .before .before .before .before .before .before .before .before .before .before .pre .1 .0) _ (c .before .before .before .before .before .before .before .before .before .row-at .ensures) (c .before .before .before .before .before .descends .ensures) (c .before .before .before .before .if2 .taken) (c .before .before .before .before .before .before .before .before .before .before .before .before .before .before .before .before .before .before .before .before .before .before .before .before .pre .1 .1 .0 .2) (c .before .before .before .before .before .before .if1 .left) _ (c .before .before .homeward .ensures .0), c .before .before .homeward .ensures .1)
+row-home-returns-2 t c = (down-home (c .before .before .before .before .before .before .before .before .before .before .before .before .before .before .before .before .before .before .before .before .before .before .before .before .pre .1 .0) _ (c .before .before .before .before .before .before .before .row-at .ensures) (c .before .before .before .before .before .descends .ensures) (c .before .before .before .before .if2 .taken) (c .before .before .before .before .before .before .before .before .before .before .before .before .before .before .before .before .before .before .before .before .before .before .before .before .pre .1 .1 .0 .2) (c .before .before .before .before .before .before .before .before .before .tail-at .ensures) (c .before .before .before .before .before .before .before .before .if1 .left) _ (c .before .before .homeward .ensures .0), c .before .before .homeward .ensures .1)
 
 row-home-returns-3 : (t : ℕ) → row-home-lts.Need-returns-3 (
+  tail-at-reads.Asked,
+  tail-at-reads.Learnt,
   row-at-reads.Asked,
   row-at-reads.Learnt,
   descends-reads.Asked,
@@ -304,7 +335,7 @@ row-home-returns-3 : (t : ℕ) → row-home-lts.Need-returns-3 (
   homeward-below t,
   homeward.Post,
 ) (row-home-at t) row-home.Post
-row-home-returns-3 t c = (not-down (c .before .before .before .before .before .before .before .before .before .before .before .before .before .before .before .before .before .before .before .before .pre .1 .0) _ (c .before .before .before .before .before .row-at .ensures) (c .before .descends .ensures) (c .if2 .left), (same-refl, c .before .before .before .before .before .before .before .before .before .before .before .before .before .before .before .before .before .before .before .before .pre .1 .1 .1))
+row-home-returns-3 t c = (not-down (c .before .before .before .before .before .before .before .before .before .before .before .before .before .before .before .before .before .before .before .before .pre .1 .0) _ (c .before .before .before .row-at .ensures) (c .before .descends .ensures) (c .if2 .left), (same-refl, c .before .before .before .before .before .before .before .before .before .before .before .before .before .before .before .before .before .before .before .before .pre .1 .1 .1))
 
 abbrev some-row-home-Inv-loop : some-row-home-lts.InvT-loop
 some-row-home-Inv-loop plain node-modes node-ranks tails heads modes lengths shortcut-tails shortcut-heads shortcut-modes shortcut-lengths shortcut-counts shortcut-firsts shortcut-seconds to x narrow₀ rows r₀ narrow r =
@@ -408,6 +439,8 @@ pub +homeward+row-home+some-row-home-spec : {M : Type 1} → statement M
     (homeward-same-length-4 t)
     (homeward-returns-5 t))
     (λ t. row-home-lts.spec (
+      tail-at-reads.Asked,
+      tail-at-reads.Learnt,
       row-at-reads.Asked,
       row-at-reads.Learnt,
       descends-reads.Asked,
@@ -417,10 +450,11 @@ pub +homeward+row-home+some-row-home-spec : {M : Type 1} → statement M
     )
     (row-home-at t)
     row-home.Post
-    (row-home-row-at-requires t)
-    (row-home-cast-tail t)
-    (row-home-cast-head t)
+    (row-home-tail-at-requires t)
+    (row-home-cast-if1 t)
     (row-home-returns t)
+    (row-home-row-at-requires t)
+    (row-home-cast-head t)
     (row-home-descends-requires t)
     (row-home-homeward-requires t)
     (row-home-same-length t)
