@@ -35,6 +35,7 @@ mod rng;
 mod rows;
 mod selftest;
 mod sheets;
+mod streams;
 mod tables;
 #[cfg(test)]
 mod tests;
@@ -58,6 +59,8 @@ reference: a second opinion on journeys
                                         run program P on N cards and judge it
   card [TEXT]                           text form to card
   text [CARD]                           card to text form
+  streams FOLDER                        the stored streams (FOLDER/stdin) and what must
+                                        be written for them (FOLDER/stdout)
   compare --seed S --count N [--largest NODES]
                                         call the proved library (feature linked)
   bench [--seed S] [--repetitions R]    timing, with the library if linked
@@ -170,6 +173,7 @@ fn run(command: &str, words: &[String]) -> Result<(), Trouble> {
             let card = input(&Words::read(words, &[])?, 0)?;
             put(text::from_card(&card).as_bytes())
         }
+        "streams" => streams_command(&Words::read(words, &[])?),
         "compare" => compare_command(&Words::read(words, &["--seed", "--count", "--largest"])?),
         "bench" => {
             let words = Words::read(words, &["--seed", "--repetitions"])?;
@@ -220,6 +224,20 @@ fn make_command(words: &Words) -> Result<(), Trouble> {
     } else {
         put(&card)
     }
+}
+
+fn streams_command(words: &Words) -> Result<(), Trouble> {
+    let [folder] = words.plain.as_slice() else {
+        return Err(Trouble::Usage("streams needs the folder to write to".to_string()));
+    };
+    let streams = streams::all();
+    let owed = streams::owed(&streams).map_err(Trouble::Difference)?;
+    let put = |name: &str, bytes: &[u8]| {
+        let path = format!("{folder}/{name}");
+        fs::write(&path, bytes).map_err(|error| wrong(format!("{path}: {error}")))
+    };
+    put("stdin", &streams::stored(&streams))?;
+    put("stdout", owed.as_bytes())
 }
 
 fn judge_command(words: &Words) -> Result<(), Trouble> {

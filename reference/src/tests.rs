@@ -11,6 +11,7 @@ use crate::judge::judge;
 use crate::make::make;
 use crate::network::{check_sheet, Network, Refusal, Row, Sheet, State};
 use crate::selftest;
+use crate::streams;
 use crate::text;
 
 fn card(text: &str) -> Vec<u8> {
@@ -604,4 +605,70 @@ fn columns_there_and_back() {
     assert_eq!((n.network(), expected::check(&n).number), (None, 1));
     let none = NetworkColumns::of(&Network::default());
     assert_eq!(expected::check(&none).number, 1);
+}
+
+// ---- the stored streams ----
+
+/// The number in a name such as `refusal-3-length-zero`; a name that tells of
+/// no refusal has none.
+fn named_refusal(name: &str) -> Option<u8> {
+    if ["cut-", "stopped-", "behind-the-end-"].iter().any(|front| name.starts_with(front)) {
+        return Some(12);
+    }
+    match name {
+        "empty" | "sizes-at-the-limits-and-stopped" => Some(12),
+        _ => name.strip_prefix("refusal-")?.split('-').next()?.parse().ok(),
+    }
+}
+
+#[test]
+fn each_stored_stream_shows_what_its_name_says() {
+    for stream in streams::all() {
+        let lines = print(&answer(&stream.bytes).lines);
+        assert_eq!(lines, stream.shows, "{}", stream.name);
+        let refused =
+            |line: &str| -> Option<u8> { line.strip_prefix("! ")?.split(' ').next()?.parse().ok() };
+        let refusals: Vec<u8> = lines.lines().filter_map(refused).collect();
+        match named_refusal(&stream.name) {
+            // 6 and 7 go on: the question behind them is answered.
+            Some(number @ (6 | 7)) => {
+                assert!(refusals.contains(&number), "{}", stream.name);
+                assert!(lines.ends_with("\n4 1 0\n"), "{}", stream.name);
+            }
+            Some(number) => {
+                let last = lines.lines().last().and_then(refused);
+                assert_eq!(last, Some(number), "{}", stream.name);
+            }
+            None if stream.name == "reference" => assert_eq!(refusals, [7]),
+            None => assert_eq!(refusals, [], "{}", stream.name),
+        }
+    }
+}
+
+#[test]
+fn the_stored_streams_show_every_refusal_of_the_stream() {
+    let streams = streams::all();
+    let named: Vec<u8> = streams.iter().filter_map(|s| named_refusal(&s.name)).collect();
+    for number in [1, 2, 3, 4, 5, 6, 7, 9, 12] {
+        assert!(named.contains(&number), "{number}");
+    }
+    let mut names: Vec<&str> = streams.iter().map(|s| s.name.as_str()).collect();
+    names.sort_unstable();
+    names.dedup();
+    assert_eq!(names.len(), streams.len(), "each name stands once");
+    // What the program that reads them has room for.
+    assert!(streams.len() < 1_000 && streams::stored(&streams).len() <= 32_768);
+    assert!(streams.iter().all(|s| s.bytes.len() < 65_536));
+}
+
+#[test]
+fn the_stored_files_are_those_made_here() {
+    let file = |name: &str| {
+        let path = format!("{}/../crates/streams/{name}", env!("CARGO_MANIFEST_DIR"));
+        std::fs::read(&path).unwrap_or_else(|error| panic!("{path}: {error}"))
+    };
+    let streams = streams::all();
+    let owed = streams::owed(&streams).expect("answers are those written by hand");
+    assert!(file("stdin") == streams::stored(&streams), "make it by `reference streams`");
+    assert!(file("stdout") == owed.as_bytes(), "make it by `reference streams`");
 }
