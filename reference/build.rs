@@ -1,4 +1,6 @@
 //! Links the proved library, and only when the feature `linked` asks for it.
+//! The library is one object that shows the five calls of the interface and
+//! nothing else, so it clashes with no name of the standard library.
 
 use std::env;
 
@@ -13,9 +15,6 @@ fn main() {
             println!("cargo:rerun-if-changed={folder}/libexports.a");
             println!("cargo:rustc-link-search=native={folder}");
             println!("cargo:rustc-link-lib=static=exports");
-            // A library without std brings a panic handler of its own, and so
-            // does std here; the linker shall keep the first and not complain.
-            println!("cargo:rustc-link-arg=-Wl,-z,muldefs");
         }
         Err(_) => {
             eprintln!("feature `linked` needs JOURNEYS_LIB, the folder that holds libexports.a");
