@@ -18,6 +18,7 @@ mod columns;
 mod compare;
 mod contraction;
 mod damage;
+mod district;
 // Without the library only the tests and cases ask what its calls must answer.
 #[cfg_attr(not(feature = "linked"), allow(dead_code))]
 mod expected;
@@ -32,6 +33,7 @@ mod network;
 mod opening;
 mod plain;
 mod rng;
+mod rounds;
 mod rows;
 mod selftest;
 mod sheets;
@@ -64,6 +66,9 @@ reference: a second opinion on journeys
   compare --seed S --count N [--largest NODES]
                                         call the proved library (feature linked)
   bench [--seed S] [--repetitions R]    timing, with the library if linked
+  drive --program P --call C --nodes N [--times T] [--seed S]
+                                        one kind of call alone, to be counted:
+       programs: ours ready theirs; calls: check checks prepare plain contracted
   selftest [--seed S] [--count N]       the program against itself and 01
 
 A missing file name, or -, means standard input.
@@ -180,6 +185,16 @@ fn run(command: &str, words: &[String]) -> Result<(), Trouble> {
             let repetitions = words.number("--repetitions")?.unwrap_or(15) as usize;
             bench::run(words.number("--seed")?.unwrap_or(1), repetitions)
                 .map_err(Trouble::Difference)
+        }
+        "drive" => {
+            let names = ["--program", "--call", "--nodes", "--times", "--seed"];
+            let words = Words::read(words, &names)?;
+            let (program, call) = (words.value("--program"), words.value("--call"));
+            let nodes = words.number("--nodes")?.unwrap_or(500) as usize;
+            let times = words.number("--times")?.unwrap_or(1);
+            let seed = words.number("--seed")?.unwrap_or(1);
+            bench::drive(program.unwrap_or("theirs"), call.unwrap_or("prepare"), seed, nodes, times)
+                .map_err(Trouble::Usage)
         }
         "selftest" => {
             let words = Words::read(words, &["--seed", "--count"])?;
