@@ -6,7 +6,9 @@ use crate::compare::{Case, Outcome};
 use crate::expected::{self, Ask};
 use crate::network::{Network, Row};
 use crate::rng::Rng;
+use crate::rooms::{Room, RowRooms, MARGIN};
 use crate::sheets;
+use std::fmt::Debug;
 
 impl Case<'_> {
     /// A length around the one that is needed: often exact.
@@ -71,10 +73,9 @@ impl Case<'_> {
 
     pub fn ask_plain(&mut self, network: &Network, n: &NetworkColumns) -> Outcome {
         let mut ask = self.ask(network, n.node_modes.len());
-        let needed = expected::plain(n, &ask).count as usize;
-        // `expected` knew of no room yet, so it may have told the count by 8.
-        ask.journey = self.length(needed);
-        self.plain(n, &ask)
+        let ours = expected::plain(n, &ask);
+        ask.journey = self.length(ours.count as usize);
+        self.plain_told(n, &ask, expected::in_room(ours, ask.journey))
     }
 
     pub fn ask_contracted(
@@ -99,9 +100,9 @@ impl Case<'_> {
         r: &RowColumns,
         mut ask: Ask,
     ) -> Outcome {
-        let needed = expected::contracted(n, r, &ask).count as usize;
-        ask.journey = self.length(needed);
-        self.contracted(n, r, &ask)
+        let ours = expected::contracted(n, r, &ask);
+        ask.journey = self.length(ours.count as usize);
+        self.contracted_told(n, r, &ask, expected::in_room(ours, ask.journey))
     }
 
     pub fn open_some(
@@ -123,20 +124,53 @@ impl Case<'_> {
         self.open(n, &columns, 65_535, 9)
     }
 
-    pub fn noise<T>(&mut self, length: usize, cut: impl Fn(u64) -> T) -> Vec<T> {
-        (0..length).map(|_| cut(self.rng.next())).collect()
+    /// A room full of garbage: anything, all bits set, small numbers that look
+    /// like those a search writes, or zero.
+    pub fn room<T: Copy + PartialEq + Debug>(
+        &mut self,
+        length: usize,
+        cut: impl Fn(u64) -> T,
+    ) -> Room<T> {
+        let style = self.rng.below(6);
+        let word = |rng: &mut Rng| match style {
+            0 => u64::MAX,
+            1 => rng.next() % 4,
+            2 => 0,
+            _ => rng.next(),
+        };
+        Room::new((0..length + 2 * MARGIN).map(|_| cut(word(&mut self.rng))).collect())
     }
 
-    /// Rows lent for preparation, full of garbage.
-    pub fn lent(&mut self, rows: usize) -> RowColumns {
-        RowColumns {
-            tails: self.noise(rows, |n| n as u16),
-            heads: self.noise(rows, |n| n as u16),
-            modes: self.noise(rows, |n| n as u8),
-            lengths: self.noise(rows, |n| n as u32),
-            counts: self.noise(rows, |n| n as u16),
-            firsts: self.noise(rows, |n| n as u16),
-            seconds: self.noise(rows, |n| n as u16),
+    /// So many rows in each of seven columns.
+    pub fn row_rooms(&mut self, lengths: [usize; 7]) -> RowRooms {
+        RowRooms {
+            tails: self.room(lengths[0], |n| n as u16),
+            heads: self.room(lengths[1], |n| n as u16),
+            modes: self.room(lengths[2], |n| n as u8),
+            lengths: self.room(lengths[3], |n| n as u32),
+            counts: self.room(lengths[4], |n| n as u16),
+            firsts: self.room(lengths[5], |n| n as u16),
+            seconds: self.room(lengths[6], |n| n as u16),
+        }
+    }
+
+    /// One bit of the network turned over; none where the column is empty.
+    pub fn flip_network(&mut self, n: &mut NetworkColumns) {
+        fn any<T>(rng: &mut Rng, column: &mut [T], turn: impl Fn(&mut T, usize)) {
+            if !column.is_empty() {
+                let at = rng.below(column.len());
+                turn(&mut column[at], rng.below(64));
+            }
+        }
+        let short = |n: &mut u16, bit: usize| *n ^= 1u16 << (bit % 16);
+        let byte = |n: &mut u8, bit: usize| *n ^= 1u8 << (bit % 8);
+        match self.rng.below(6) {
+            0 => any(&mut self.rng, &mut n.node_modes, byte),
+            1 => any(&mut self.rng, &mut n.node_ranks, short),
+            2 => any(&mut self.rng, &mut n.tails, short),
+            3 => any(&mut self.rng, &mut n.heads, short),
+            4 => any(&mut self.rng, &mut n.modes, byte),
+            _ => any(&mut self.rng, &mut n.lengths, short),
         }
     }
 

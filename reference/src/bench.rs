@@ -39,8 +39,7 @@ fn times(round: &Round, repetitions: usize) -> Vec<Vec<Option<f64>>> {
         // A preparation takes as long as many questions.
         let repetitions = if call == "prepare" { repetitions.min(3) } else { repetitions };
         let each = if matches!(call, "check" | "prepare") { 1 } else { QUESTIONS };
-        let mut works: Vec<_> =
-            PROGRAMS.iter().map(|program| round.work(program, call)).collect();
+        let mut works: Vec<_> = PROGRAMS.iter().map(|program| round.work(program, call)).collect();
         for (line, time) in table.iter_mut().zip(least(&mut works, repetitions)) {
             line.push(time.map(|time| time * 1e6 / each as f64));
         }
@@ -91,13 +90,7 @@ pub fn run(seed: u64, repetitions: usize) -> Result<(), String> {
 
 /// One kind of call on one network, so often, and nothing else: instruction
 /// counts of a call are the difference between two such runs.
-pub fn drive(
-    program: &str,
-    call: &str,
-    seed: u64,
-    nodes: usize,
-    times: u64,
-) -> Result<(), String> {
+pub fn drive(program: &str, call: &str, seed: u64, nodes: usize, times: u64) -> Result<(), String> {
     let round = Round::new(seed, nodes).ok_or("no table for this seed")?;
     let mut work = round.work(program, call).ok_or("no such program or call")?;
     (0..times).for_each(|_| work());

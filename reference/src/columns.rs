@@ -75,7 +75,32 @@ pub struct RowColumns {
     pub seconds: Vec<u16>,
 }
 
+/// Seven columns lent to be written.
+#[cfg(feature = "linked")]
+pub struct LentRows<'a> {
+    pub tails: &'a mut [u16],
+    pub heads: &'a mut [u16],
+    pub modes: &'a mut [u8],
+    pub lengths: &'a mut [u32],
+    pub counts: &'a mut [u16],
+    pub firsts: &'a mut [u16],
+    pub seconds: &'a mut [u16],
+}
+
 impl RowColumns {
+    #[cfg(feature = "linked")]
+    pub fn lend(&mut self) -> LentRows<'_> {
+        LentRows {
+            tails: &mut self.tails,
+            heads: &mut self.heads,
+            modes: &mut self.modes,
+            lengths: &mut self.lengths,
+            counts: &mut self.counts,
+            firsts: &mut self.firsts,
+            seconds: &mut self.seconds,
+        }
+    }
+
     pub fn of(rows: &[Row]) -> RowColumns {
         RowColumns {
             tails: rows.iter().map(|r| r.tail).collect(),

@@ -2,7 +2,7 @@
 //! everything 01 fixes with our own functions. Legs are ridden, not compared.
 //!
 //! Each seed is a case of its own, so a difference is seen again with
-//! `compare --seed <that seed> --count 1`.
+//! `compare --seed <that seed> --count 1` and the same `--largest`.
 
 use crate::cases;
 use crate::columns::{NetworkColumns, RowColumns};
@@ -10,6 +10,7 @@ use crate::contraction::prepare;
 use crate::extremes;
 use crate::network::{Network, Row};
 use crate::rng::Rng;
+use crate::spoil::Spoil;
 use crate::tables;
 use crate::towns;
 use std::collections::BTreeMap;
@@ -17,66 +18,101 @@ use std::collections::BTreeMap;
 /// `Err` holds a difference and the input that showed it.
 pub type Outcome = Result<(), String>;
 
-/// How often each call gave each number.
+/// How often each call gave each number, and how many calls each kind made.
 #[derive(Default)]
-pub struct Tally(BTreeMap<(&'static str, u8), u64>);
+pub struct Tally {
+    numbers: BTreeMap<(&'static str, u8), u64>,
+    kinds: BTreeMap<&'static str, u64>,
+    pub calls: u64,
+}
 
 impl Tally {
-    pub fn note(&mut self, call: &'static str, number: u8) {
-        *self.0.entry((call, number)).or_insert(0) += 1;
+    pub fn note(&mut self, kind: &'static str, call: &'static str, number: u8) {
+        *self.numbers.entry((call, number)).or_insert(0) += 1;
+        *self.kinds.entry(kind).or_insert(0) += 1;
+        self.calls += 1;
     }
 
     pub fn tell(&self) -> String {
-        let mut told = String::new();
+        let mut told = format!("{} calls\n", self.calls);
+        for (kind, calls) in &self.kinds {
+            told.push_str(&format!("  {kind:<40} {calls:>9}\n"));
+        }
+        told.push_str("how often each number was answered\n");
         for call in ["check", "prepare", "plain", "contracted", "open"] {
             let numbers: Vec<String> = self
-                .0
+                .numbers
                 .iter()
                 .filter(|((name, _), _)| *name == call)
                 .map(|((_, number), times)| format!("{number}: {times}"))
                 .collect();
-            told.push_str(&format!("{call:<11} {}\n", numbers.join(", ")));
+            told.push_str(&format!("  {call:<11} {}\n", numbers.join(", ")));
         }
-        told.push_str("(open: 0 opened, 1 nothing handed back)\n");
+        told.push_str("  (open: 0 opened, 1 nothing handed back)\n");
         told
     }
 }
 
-pub fn run(seed: u64, count: u64, largest: usize) -> Result<Tally, String> {
-    let mut tally = Tally::default();
-    for seed in seed..seed.saturating_add(count) {
-        let mut case = Case { rng: Rng::new(seed), tally: &mut tally };
-        case.run(largest).map_err(|wrong| format!("DIFFERENCE, seed {seed}\n{wrong}"))?;
+/// How much is compared: so many seeds, or seeds until so many calls are made.
+pub enum Amount {
+    Cases(u64),
+    Calls(u64),
+}
+
+/// The cases of the seeds from `seed` on, and how many. With `spoil` each call
+/// is falsified, and must be noticed.
+pub fn run(
+    seed: u64,
+    amount: Amount,
+    largest: usize,
+    spoil: &mut Spoil,
+) -> Result<(u64, Tally), String> {
+    let (mut tally, mut cases) = (Tally::default(), 0);
+    while match amount {
+        Amount::Cases(most) => cases < most,
+        Amount::Calls(most) => tally.calls < most,
+    } {
+        let seed = seed.wrapping_add(cases);
+        let mut case = Case { rng: Rng::new(seed), kind: "", tally: &mut tally, spoil };
+        case.run(largest).map_err(|wrong| {
+            format!("DIFFERENCE, seed {seed}, largest {largest}, {}\n{wrong}", case.kind)
+        })?;
+        cases += 1;
     }
-    Ok(tally)
+    Ok((cases, tally))
 }
 
 /// One seed's case. What it asks stands in `asks`, how it calls in `calls`.
 pub struct Case<'a> {
     pub rng: Rng,
+    pub kind: &'static str,
     pub tally: &'a mut Tally,
+    pub spoil: &'a mut Spoil,
 }
 
 impl Case<'_> {
     fn run(&mut self, largest: usize) -> Outcome {
         match self.rng.below(40) {
-            0..=9 => self.small_with_every_flip(),
-            10..=16 => self.sound_tables(),
-            17..=22 => self.broken(),
-            23..=28 => self.uneven(),
-            29..=36 => {
+            0..=4 => self.small_with_every_flip(),
+            5..=8 => self.random(),
+            9..=13 => self.sound_tables(),
+            14..=18 => self.broken(),
+            19..=22 => self.damaged(),
+            23..=27 => self.uneven(),
+            28..=36 => {
                 let size = self.rng.between(11, 60.min(largest.max(11)));
-                self.random_flips(size, 12)
+                self.random_flips("random flips, 11 to 60 nodes", size, 12)
             }
             37 => {
-                let size = self.rng.between(60.min(largest), largest);
-                self.random_flips(size, 4)
+                let size = self.rng.between(61.min(largest), largest);
+                self.random_flips("random flips, 61 nodes and more", size, 12)
             }
             _ => self.extreme(),
         }
     }
 
     fn small_with_every_flip(&mut self) -> Outcome {
+        self.kind = "small tables, every single flip";
         let size = self.rng.between(1, 10);
         let network = towns::network(&mut self.rng, size);
         let rows = self.whole(&network, 4)?;
@@ -92,7 +128,17 @@ impl Case<'_> {
         Ok(())
     }
 
-    fn random_flips(&mut self, size: usize, flips: usize) -> Outcome {
+    /// Accepted networks and many questions.
+    fn random(&mut self) -> Outcome {
+        self.kind = "random networks";
+        let size = if self.rng.chance(2) { 10 } else { 60 };
+        let size = self.rng.between(1, size);
+        let network = towns::network(&mut self.rng, size);
+        self.whole(&network, 60).map(|_| ())
+    }
+
+    fn random_flips(&mut self, kind: &'static str, size: usize, flips: usize) -> Outcome {
+        self.kind = kind;
         let network = towns::network(&mut self.rng, size.max(1));
         let rows = self.whole(&network, 4)?;
         let n = NetworkColumns::of(&network);
@@ -110,6 +156,7 @@ impl Case<'_> {
 
     /// Tables that keep every rule of soundness but were made by nobody.
     fn sound_tables(&mut self) -> Outcome {
+        self.kind = "sound tables that nobody prepared";
         let size = self.rng.between(2, 25);
         let network = towns::network(&mut self.rng, size);
         let prepared = prepare(&network, 4_096).unwrap_or_default();
@@ -133,6 +180,7 @@ impl Case<'_> {
 
     /// Networks with one broken rule or two, and everything else at random.
     fn broken(&mut self) -> Outcome {
+        self.kind = "networks with broken rules";
         let size = self.rng.between(1, 30);
         let sane = towns::network(&mut self.rng, size);
         let rows = prepare(&sane, 4_096).unwrap_or_default();
@@ -140,23 +188,44 @@ impl Case<'_> {
         for _ in 0..self.rng.between(1, 2) {
             towns::spoil(&mut self.rng, &mut network);
         }
-        let n = NetworkColumns::of(&network);
-        self.check(&n)?;
-        let lent = self.lent(rows.len());
-        self.prepare(&n, lent)?;
-        self.ask_plain(&sane, &n)?;
-        let mut columns = RowColumns::of(&rows);
-        self.ask_contracted(&sane, &n, &columns)?;
-        self.open(&n, &columns, 0, 600)?;
+        self.every_call(&sane, &NetworkColumns::of(&network), &rows)
+    }
+
+    /// Networks with one bit to three turned over.
+    fn damaged(&mut self) -> Outcome {
+        self.kind = "networks with bits turned over";
+        let size = self.rng.between(1, 30);
+        let sane = towns::network(&mut self.rng, size);
+        let rows = prepare(&sane, 4_096).unwrap_or_default();
+        for _ in 0..8 {
+            let mut n = NetworkColumns::of(&sane);
+            for _ in 0..self.rng.between(1, 3) {
+                self.flip_network(&mut n);
+            }
+            self.every_call(&sane, &n, &rows)?;
+        }
+        Ok(())
+    }
+
+    /// Questions are asked about `sane`, of the columns as they are.
+    fn every_call(&mut self, sane: &Network, n: &NetworkColumns, rows: &[Row]) -> Outcome {
+        self.check(n)?;
+        self.prepare(n, [rows.len(); 7])?;
+        self.ask_plain(sane, n)?;
+        let mut columns = RowColumns::of(rows);
+        self.ask_contracted(sane, n, &columns)?;
+        let row = self.rng.below(n.tails.len() + rows.len() + 1) as u16;
+        self.open(n, &columns, row, 600)?;
         if !rows.is_empty() {
             columns = flip(&columns, self.rng.below(rows.len() * 120));
-            self.ask_contracted(&sane, &n, &columns)?;
+            self.ask_contracted(sane, n, &columns)?;
         }
         Ok(())
     }
 
     /// Columns of different lengths, in the network, the table or both.
     fn uneven(&mut self) -> Outcome {
+        self.kind = "uneven columns";
         let size = self.rng.between(1, 20);
         let mut network = towns::network(&mut self.rng, size);
         let rows = prepare(&network, 4_096).unwrap_or_default();
@@ -173,9 +242,10 @@ impl Case<'_> {
             self.pull_rows(&mut columns);
         }
         self.check(&n)?;
-        let mut lent = self.lent(rows.len() + 3);
+        let mut lent = [rows.len() + 3; 7];
         if which != 1 {
-            self.pull_rows(&mut lent);
+            let column = self.rng.below(7);
+            lent[column] = self.rng.pick(&[0, rows.len() + 2, rows.len() + 4]);
         }
         self.prepare(&n, lent)?;
         self.ask_plain(&network, &n)?;
@@ -184,8 +254,9 @@ impl Case<'_> {
     }
 
     fn extreme(&mut self) -> Outcome {
+        self.kind = "extremes";
         let foot = |n: u16| extremes::chain(n, 0, 65_535);
-        let network = match self.rng.below(14) {
+        let network = match self.rng.below(16) {
             0 => foot(512),
             1 => foot(513),
             2 => Network::default(),
@@ -199,6 +270,7 @@ impl Case<'_> {
             10 => return self.longest(),
             11 => return self.doubling(),
             12 => return self.too_many_rows(),
+            13 | 14 => return self.wrapped(),
             _ => Network { edges: Vec::new(), ..foot(512) },
         };
         if network.check().is_ok() {
@@ -206,8 +278,7 @@ impl Case<'_> {
         } else {
             let n = NetworkColumns::of(&network);
             self.check(&n)?;
-            let lent = self.lent(5);
-            self.prepare(&n, lent)?;
+            self.prepare(&n, [5; 7])?;
             self.ask_plain(&foot(3), &n)?;
             self.ask_contracted(&foot(3), &n, &RowColumns::default())?;
             self.open(&n, &RowColumns::default(), 0, 5)?;
@@ -260,6 +331,45 @@ impl Case<'_> {
         Ok(())
     }
 
+    /// Lengths whose last 16 bits would pass; and more rows lent than 16 bits
+    /// can count.
+    fn wrapped(&mut self) -> Outcome {
+        let size = self.rng.between(2, 12);
+        let network = towns::network(&mut self.rng, size);
+        let rows = prepare(&network, 4_096).unwrap_or_default();
+        let (n, columns) = (NetworkColumns::of(&network), RowColumns::of(&rows));
+        let (mut many_nodes, mut many_edges, mut many_rows) =
+            (n.clone(), n.clone(), columns.clone());
+        many_nodes.node_modes.resize(65_536 + size, 1);
+        many_nodes.node_ranks.resize(65_536 + size, 0);
+        for column in [&mut many_edges.tails, &mut many_edges.heads, &mut many_edges.lengths] {
+            column.resize(65_536 + network.edges.len(), 1);
+        }
+        many_edges.modes.resize(65_536 + network.edges.len(), 1);
+        let more = 65_536 + rows.len();
+        for column in [
+            &mut many_rows.tails,
+            &mut many_rows.heads,
+            &mut many_rows.counts,
+            &mut many_rows.firsts,
+            &mut many_rows.seconds,
+        ] {
+            column.resize(more, 0);
+        }
+        many_rows.modes.resize(more, 0);
+        many_rows.lengths.resize(more, 0);
+        self.prepare(&n, [more; 7])?;
+        for n in [&many_nodes, &many_edges] {
+            self.check(n)?;
+            self.prepare(n, [9; 7])?;
+            self.ask_plain(&network, n)?;
+            self.ask_contracted(&network, n, &columns)?;
+            self.open(n, &columns, 0, 9)?;
+        }
+        self.ask_contracted(&network, &n, &many_rows)?;
+        self.open(&n, &many_rows, 0, 9)
+    }
+
     /// Every call on an accepted network, rooms of all lengths. Hands back our
     /// own table (empty if there is none).
     fn whole(&mut self, network: &Network, questions: usize) -> Result<Vec<Row>, String> {
@@ -271,12 +381,10 @@ impl Case<'_> {
         };
         let few = self.rng.below(needed.max(1));
         for lent in [few, needed.saturating_sub(1), needed, needed + self.rng.between(1, 40)] {
-            let lent = self.lent(lent);
-            self.prepare(&n, lent)?;
+            self.prepare(&n, [lent; 7])?;
         }
         if self.rng.chance(20) {
-            let lent = self.lent(5_000);
-            self.prepare(&n, lent)?;
+            self.prepare(&n, [5_000; 7])?;
         }
         let columns = RowColumns::of(&rows);
         for _ in 0..questions {

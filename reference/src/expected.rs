@@ -138,6 +138,14 @@ fn answered(found: Result<Weight, Refusal>, room: usize) -> Answer {
     }
 }
 
+/// The same answer where the journey room has another length.
+pub fn in_room(answer: Answer, room: usize) -> Answer {
+    match answer.number {
+        0 | 8 => answered(Ok(Weight { time: answer.time, count: answer.count }), room),
+        _ => answer,
+    }
+}
+
 /// The filled front; empty if anything is bad or the room is short.
 pub fn opened(network: &NetworkColumns, shortcuts: &RowColumns, row: u16, room: usize) -> Vec<u16> {
     let run = || -> Result<Vec<u16>, Refusal> {

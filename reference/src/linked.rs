@@ -4,7 +4,7 @@
 //! as pointer, then length. Columns of different lengths pass as they are:
 //! refusing them is the library's business.
 
-use crate::columns::{Answer, NetworkColumns, RowColumns};
+use crate::columns::{Answer, LentRows, NetworkColumns, RowColumns};
 
 extern "C" {
     fn journeys_check(
@@ -110,7 +110,7 @@ pub fn check(n: &NetworkColumns) -> Answer {
 
 pub fn prepare(
     n: &NetworkColumns,
-    r: &mut RowColumns,
+    r: LentRows,
     wide: &mut [u64],
     narrow: &mut [u32],
 ) -> Answer {

@@ -33,10 +33,14 @@ mod network;
 mod opening;
 mod plain;
 mod rng;
+#[cfg(feature = "linked")]
+mod rooms;
 mod rounds;
 mod rows;
 mod selftest;
 mod sheets;
+#[cfg(feature = "linked")]
+mod spoil;
 mod streams;
 mod tables;
 #[cfg(test)]
@@ -63,8 +67,11 @@ reference: a second opinion on journeys
   text [CARD]                           card to text form
   streams FOLDER                        the stored streams (FOLDER/stdin) and what must
                                         be written for them (FOLDER/stdout)
-  compare --seed S --count N [--largest NODES]
+  compare [--seed S] [--count N | --calls N] [--largest NODES] [--spoil]
                                         call the proved library (feature linked)
+                                        with N seeds, or until N calls are made;
+                                        --spoil falsifies one bit behind each
+                                        call, and each must be noticed
   bench [--seed S] [--repetitions R]    timing, with the library if linked
   drive --program P --call C --nodes N [--times T] [--seed S]
                                         one kind of call alone, to be counted:
@@ -95,7 +102,7 @@ struct Words {
     plain: Vec<String>,
 }
 
-const FLAGS: [&str; 2] = ["--text", "--names"];
+const FLAGS: [&str; 3] = ["--text", "--names", "--spoil"];
 
 impl Words {
     fn read(words: &[String], names: &[&str]) -> Result<Words, Trouble> {
@@ -179,7 +186,10 @@ fn run(command: &str, words: &[String]) -> Result<(), Trouble> {
             put(text::from_card(&card).as_bytes())
         }
         "streams" => streams_command(&Words::read(words, &[])?),
-        "compare" => compare_command(&Words::read(words, &["--seed", "--count", "--largest"])?),
+        "compare" => {
+            let names = ["--seed", "--count", "--calls", "--largest", "--spoil"];
+            compare_command(&Words::read(words, &names)?)
+        }
         "bench" => {
             let words = Words::read(words, &["--seed", "--repetitions"])?;
             let repetitions = words.number("--repetitions")?.unwrap_or(15) as usize;
@@ -317,10 +327,21 @@ fn output_of(program: &str, card: &[u8]) -> io::Result<Vec<u8>> {
 #[cfg(feature = "linked")]
 fn compare_command(words: &Words) -> Result<(), Trouble> {
     let seed = words.number("--seed")?.unwrap_or(1);
-    let count = words.number("--count")?.unwrap_or(200);
-    let largest = words.number("--largest")?.unwrap_or(500) as usize;
-    let tally = compare::run(seed, count, largest.clamp(1, 500)).map_err(Trouble::Difference)?;
-    put(format!("seeds {seed} on, {count} cases, no difference\n{}", tally.tell()).as_bytes())
+    let amount = match words.number("--calls")? {
+        Some(calls) => compare::Amount::Calls(calls),
+        None => compare::Amount::Cases(words.number("--count")?.unwrap_or(200)),
+    };
+    let largest = (words.number("--largest")?.unwrap_or(500) as usize).clamp(1, 500);
+    let mut spoil = match words.has("--spoil") {
+        true => spoil::Spoil::new(seed),
+        false => spoil::Spoil::default(),
+    };
+    let (cases, tally) =
+        compare::run(seed, amount, largest, &mut spoil).map_err(Trouble::Difference)?;
+    if words.has("--spoil") {
+        return put(format!("{}{}", spoil.tell(), tally.tell()).as_bytes());
+    }
+    put(format!("seeds {seed} on, {cases} cases, no difference: {}", tally.tell()).as_bytes())
 }
 
 #[cfg(not(feature = "linked"))]

@@ -82,8 +82,9 @@ impl Round {
                 _ = black_box(network.check_question(from, to));
             }),
             "prepare" => Some(Box::new(|| _ = black_box(prepare(network, 4_096)))),
-            "plain" => self
-                .each(|sheet, from, to| _ = black_box(plain::search(network, sheet, from, to))),
+            "plain" => {
+                self.each(|sheet, from, to| _ = black_box(plain::search(network, sheet, from, to)))
+            }
             "contracted" => self.each(|sheet, from, to| {
                 _ = black_box(rows::search(network, shortcuts, sheet, from, to))
             }),
@@ -121,9 +122,8 @@ impl Round {
                 _ = black_box(lent.contracted(&network, &table, sheet, 65_535, to))
             }),
             "prepare" => Some(Box::new(move || _ = black_box(lent.prepare(&network)))),
-            "plain" => self.each(move |sheet, from, to| {
-                _ = black_box(lent.plain(&network, sheet, from, to))
-            }),
+            "plain" => self
+                .each(move |sheet, from, to| _ = black_box(lent.plain(&network, sheet, from, to))),
             "contracted" => self.each(move |sheet, from, to| {
                 _ = black_box(lent.contracted(&network, &table, sheet, from, to))
             }),
@@ -183,7 +183,7 @@ impl Lent {
     }
 
     fn prepare(&mut self, n: &NetworkColumns) -> crate::columns::Answer {
-        linked::prepare(n, &mut self.rows, &mut self.wide, &mut self.narrow)
+        linked::prepare(n, self.rows.lend(), &mut self.wide, &mut self.narrow)
     }
 
     fn plain(
