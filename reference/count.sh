@@ -7,11 +7,12 @@ set -eu
 cd "$(dirname "$0")"
 program=$1 call=$2
 shift 2
+reference=${REFERENCE:-target/linked/release/reference}
 out=target/count
 mkdir -p target
 
 count() { # nodes, times
-    valgrind --tool=callgrind --callgrind-out-file="$out.$2" target/release/reference drive \
+    valgrind --tool=callgrind --callgrind-out-file="$out.$2" "$reference" drive \
         --program "$program" --call "$call" --nodes "$1" --times "$2" --seed "${SEED:-1}" 2>&1 | sed -n 's/.*Collected : //p'
 }
 

@@ -23,6 +23,8 @@ mod district;
 #[cfg_attr(not(feature = "linked"), allow(dead_code))]
 mod expected;
 mod extremes;
+#[cfg(test)]
+mod header;
 mod judge;
 mod legs;
 #[cfg(feature = "linked")]
