@@ -672,3 +672,15 @@ fn the_stored_files_are_those_made_here() {
     assert!(file("stdin") == streams::stored(&streams), "make it by `reference streams`");
     assert!(file("stdout") == owed.as_bytes(), "make it by `reference streams`");
 }
+
+#[test]
+fn towns_for_timing_are_as_promised() {
+    for nodes in [50, 100, 200, 300, 400, 500] {
+        let town = crate::district::district(&mut crate::rng::Rng::new(nodes as u64), nodes);
+        assert_eq!(town.check(), Ok(()));
+        assert_eq!((town.nodes.len(), town.edges.len()), (nodes, nodes * 28 / 10));
+        let core = town.nodes.iter().filter(|node| node.rank == crate::network::CORE).count();
+        assert!(core * 10 <= nodes, "{core} of {nodes} are core");
+        assert!(crate::rounds::Round::new(1, nodes).is_some(), "{nodes} nodes have no table");
+    }
+}
