@@ -44,4 +44,3 @@ pub data PreparedInto (N : Network) (T T′ : Columns) (wide wide′ narrow narr
   prepares : {ss : List Row} → Passed (prepare-order N T (length wide) (length narrow)) → Prepared N ss → Fits N ss (length (T .tails))
       → a ≡ shortcuts-made ss → Holds T′ (length (T .tails)) ss → Zeroed wide wide′ narrow narrow′
       → PreparedInto N T T′ wide wide′ narrow narrow′ a
-
