@@ -23,6 +23,6 @@ for nodes; do
     echo "$program $call $nodes nodes: $(((with - without) / each)) instructions"
     if [ "${SPLIT:-0}" = 1 ]; then
         callgrind_annotate --threshold=100 "$out.1" | grep '%' | sed 's/ \[.*//; s/???://' |
-            grep -E ' (journeys_|(contraction|search|network|exports)::)|/memset-'
+            grep -E ' (journeys_|(preparation|legs|search|network|columns|exports)::)|/memset-'
     fi
 done
