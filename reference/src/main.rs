@@ -43,6 +43,7 @@ mod selftest;
 mod sheets;
 #[cfg(feature = "linked")]
 mod spoil;
+mod stored_tables;
 mod streams;
 mod tables;
 #[cfg(test)]
@@ -69,6 +70,7 @@ reference: a second opinion on journeys
   text [CARD]                           card to text form
   streams FOLDER                        the stored streams (FOLDER/stdin) and what must
                                         be written for them (FOLDER/stdout)
+  tables FOLDER                         the same of the stored networks
   compare [--seed S] [--count N | --calls N] [--largest NODES] [--spoil]
                                         call the proved library (feature linked)
                                         with N seeds, or until N calls are made;
@@ -187,7 +189,16 @@ fn run(command: &str, words: &[String]) -> Result<(), Trouble> {
             let card = input(&Words::read(words, &[])?, 0)?;
             put(text::from_card(&card).as_bytes())
         }
-        "streams" => streams_command(&Words::read(words, &[])?),
+        "streams" => {
+            let streams = streams::all();
+            let owed = streams::owed(&streams).map_err(Trouble::Difference)?;
+            store(&Words::read(words, &[])?, &streams::stored(&streams), &owed)
+        }
+        "tables" => {
+            let all = stored_tables::all();
+            let (input, owed) = (stored_tables::input(&all), stored_tables::owed(&all));
+            store(&Words::read(words, &[])?, &input, &owed)
+        }
         "compare" => {
             let names = ["--seed", "--count", "--calls", "--largest", "--spoil"];
             compare_command(&Words::read(words, &names)?)
@@ -253,17 +264,16 @@ fn make_command(words: &Words) -> Result<(), Trouble> {
     }
 }
 
-fn streams_command(words: &Words) -> Result<(), Trouble> {
+/// Writes a program's input, and what it must write for it, to the folder named.
+fn store(words: &Words, input: &[u8], owed: &str) -> Result<(), Trouble> {
     let [folder] = words.plain.as_slice() else {
-        return Err(Trouble::Usage("streams needs the folder to write to".to_string()));
+        return Err(Trouble::Usage("name the folder to write to".to_string()));
     };
-    let streams = streams::all();
-    let owed = streams::owed(&streams).map_err(Trouble::Difference)?;
     let put = |name: &str, bytes: &[u8]| {
         let path = format!("{folder}/{name}");
         fs::write(&path, bytes).map_err(|error| wrong(format!("{path}: {error}")))
     };
-    put("stdin", &streams::stored(&streams))?;
+    put("stdin", input)?;
     put("stdout", owed.as_bytes())
 }
 

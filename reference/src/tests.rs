@@ -11,6 +11,7 @@ use crate::judge::judge;
 use crate::make::make;
 use crate::network::{check_sheet, Network, Refusal, Row, Sheet, State};
 use crate::selftest;
+use crate::stored_tables;
 use crate::streams;
 use crate::text;
 
@@ -683,4 +684,107 @@ fn towns_for_timing_are_as_promised() {
         assert!(core * 10 <= nodes, "{core} of {nodes} are core");
         assert!(crate::rounds::Round::new(1, nodes).is_some(), "{nodes} nodes have no table");
     }
+}
+
+// ---- the stored tables ----
+
+#[test]
+fn the_stored_table_files_are_those_made_here() {
+    let file = |name: &str| {
+        let path = format!("{}/../crates/tables/{name}", env!("CARGO_MANIFEST_DIR"));
+        std::fs::read(&path).unwrap_or_else(|error| panic!("{path}: {error}"))
+    };
+    let all = stored_tables::all();
+    assert!(file("stdin") == stored_tables::input(&all), "make it by `reference tables`");
+    assert!(
+        file("stdout") == stored_tables::owed(&all).as_bytes(),
+        "make it by `reference tables`"
+    );
+    // What the program that reads them has room for.
+    assert!(all.len() < 1_000 && stored_tables::input(&all).len() < 65_536);
+    let most = |size: fn(&stored_tables::Stored) -> usize| all.iter().map(size).max();
+    assert!(most(|s| s.network.nodes.len()) <= Some(513));
+    assert!(most(|s| s.network.edges.len()) <= Some(2_048));
+    assert!(most(|s| s.lent) <= Some(4_096) && most(|s| s.questions.len()) <= Some(255));
+}
+
+/// 01's cases P1 to P9, written by hand.
+#[test]
+fn the_stored_tables_of_01_are_those_of_01() {
+    let row_8 = "0 2 1 7 2 0 1\n";
+    let zero = "0 0 0 0 0 0 0\n";
+    let twice = |line: &str| format!("{line}\n{line}\n");
+    let p1_to_p6 = ["0 0 22 6", "0 0 42 4", "7 0 0 0", "7 0 0 0", "0 0 0 0", "0 0 0 0"];
+    let refused = ["5 0 0 0", "6 0 0 0", "6 1 0 0"];
+    let answers: String = p1_to_p6.iter().chain(&refused).map(|line| twice(line)).collect();
+    let shows = [
+        format!("0 0 1\n{row_8}{zero}{zero}{answers}"),
+        format!("0 0 0\n{zero}{zero}{}", twice("0 0 22 5")),
+        format!("0 0 1\n{row_8}{}", twice("0 0 22 6")),
+    ];
+    for (stored, shows) in stored_tables::all().iter().zip(shows) {
+        assert_eq!(stored.told().text(), shows, "{}", stored.name);
+    }
+}
+
+#[test]
+fn the_stored_tables_show_what_they_are_stored_for() {
+    let all = stored_tables::all();
+    let mut names: Vec<&str> = all.iter().map(|s| s.name.as_str()).collect();
+    names.sort_unstable();
+    names.dedup();
+    assert_eq!(names.len(), all.len(), "each name stands once");
+    let (mut numbers, mut answers) = ([0; 13], [0; 13]);
+    let (mut bare, mut nested) = (0, 0);
+    for stored in &all {
+        let told = stored.told();
+        let named = stored.name.strip_prefix("refusal-").and_then(|n| n.split('-').next());
+        let number = named.map_or(Ok(0), str::parse);
+        assert_eq!(Ok(told.prepared.number), number, "{}", stored.name);
+        numbers[told.prepared.number as usize] += 1;
+        for (plain, contracted) in &told.answers {
+            answers[contracted.number as usize] += 1;
+            if told.prepared.number == 0 {
+                assert_eq!(plain, contracted, "{}", stored.name);
+            }
+        }
+        if told.prepared.number == 0 {
+            let edges = stored.network.edges.len();
+            let made = &told.rows[..told.prepared.count as usize];
+            bare += made.is_empty() as usize;
+            nested += made.iter().any(|r| r.first.max(r.second) as usize >= edges) as usize;
+        }
+    }
+    for number in [0, 1, 2, 3, 4, 9] {
+        assert!(numbers[number] > 0, "no network shows {number}: {numbers:?}");
+    }
+    for number in [0, 5, 6, 7, 10] {
+        assert!(answers[number] > 0, "no question shows {number}: {answers:?}");
+    }
+    assert!(bare > 1 && nested > 5, "{bare} without a shortcut, {nested} with nested ones");
+}
+
+/// The way round decides: equal in time and count it forbids the shortcut,
+/// heavier in either it does not.
+#[test]
+fn among_the_stored_tables_a_way_round_decides() {
+    let all = stored_tables::all();
+    let count = |name: &str| {
+        let stored = all.iter().find(|s| s.name == name).expect("it is stored");
+        stored.told().prepared.count
+    };
+    assert_eq!(count("an-equal-way-round"), 0);
+    assert_eq!(count("a-way-round-that-is-lighter"), 0);
+    assert_eq!(count("a-way-round-that-is-heavier"), 1);
+    assert_eq!(count("an-equal-way-round-of-more-edges"), 1);
+}
+
+#[test]
+fn the_stored_town_is_as_large_as_is_said() {
+    let all = stored_tables::all();
+    let town = all.last().expect("the town is the last one");
+    assert_eq!((town.network.nodes.len(), town.network.edges.len()), (500, 1_400));
+    let core = town.network.nodes.iter().filter(|n| n.rank == crate::network::CORE).count();
+    assert!(core <= 50, "{core} nodes are core");
+    assert_eq!((town.lent, town.told().prepared.number), (4_096, 0));
 }
