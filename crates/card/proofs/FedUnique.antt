@@ -14,9 +14,10 @@ use Rattle.search.specs.Answers.{legs-of}
 use Rattle.search.proofs.SearchUnique.{Determined}
 use Rattle.preparation.proofs.PrepareUnique.{prepare-unique}
 use Rattle.legs.proofs.ContractedUnique.{contracted-unique}
-use Rattle.card.specs.declared.reader.Reader.{Reader}
+use Rattle.records.specs.declared.reader.Reader.{Reader}
 use Rattle.lines.specs.Text.{line-of}
-use Rattle.card.specs.Reading.{Lent, holding, done, Told, Refusing, HeadTaken, SheetTaken, states-with, StateTaken, SimplyTaken, a-head, a-sheet, a-state, the-end, unknown, readied, counted, Closed, NetworkTaken, stage-after, Asked, Taken, of-network, question, other, Fed, Finished}
+use Rattle.records.specs.Reader.{holding, done}
+use Rattle.card.specs.Reading.{Lent, Told, Refusing, HeadTaken, SheetTaken, states-with, StateTaken, SimplyTaken, a-head, a-sheet, a-state, the-end, unknown, readied, counted, Closed, NetworkTaken, stage-after, Asked, Taken, of-network, question, other, Fed, Finished}
 use Rattle.lines.proofs.Lines.{line-unique}
 
 number-of : {a b : Answer} → a ≡ b → a .number ≡ b .number

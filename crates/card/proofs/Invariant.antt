@@ -18,11 +18,12 @@ use Rattle.network.specs.Rows.{Columns, Even, table}
 use Rattle.network.specs.Refusal.{Passed, network-order, sheet-order}
 use Rattle.preparation.specs.Contraction.{Prepared}
 use Rattle.preparation.specs.Answers.{Fits}
-use Rattle.card.specs.declared.reader.Reader.{Reader}
+use Rattle.records.specs.declared.reader.Reader.{Reader}
 use Rattle.card.specs.Records.{Record, bytes-of}
 use Rattle.lines.specs.Text.{refusal-line}
 use Rattle.card.specs.Stream.{Stage, start, building, ready, listing, asking, ended, due, HeadFine, Follows, Refuses}
-use Rattle.card.specs.Reading.{Lent, holding, behind, byte-at, awaits, size, front-network, front-columns}
+use Rattle.records.specs.Reader.{holding, behind, byte-at, awaits, size}
+use Rattle.card.specs.Reading.{Lent, front-network, front-columns}
 use Rattle.card.specs.Running.{Bytes, EnoughColumns, Enough, told-line}
 use Rattle.card.proofs.RecordBytes.{entries, entries-front, bytes-append, Known, known-end, known-head, known-node, known-edge, known-state, known-question, known-sheet}
 

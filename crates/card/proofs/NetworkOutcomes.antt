@@ -19,10 +19,11 @@ use Rattle.network.proofs.RowLaws.{table-length, row-≡, table-at}
 use Rattle.search.specs.Orders.{Roomy}
 use Rattle.search.proofs.RefusalLaws.{refused-avoids}
 use Rattle.preparation.specs.Answers.{prepare-order, Holds, PreparedInto, refuses, exceeds, prepares}
-use Rattle.card.specs.declared.reader.Reader.{Reader}
+use Rattle.records.specs.declared.reader.Reader.{Reader}
 use Rattle.card.specs.Records.{Record, node, edge, bytes-of}
 use Rattle.card.specs.Stream.{Stage, building, ready, HeadFine, with-node, with-edge, Brings, a-node, an-edge, Whole, grows, accepts, bad-network, too-many}
-use Rattle.card.specs.Reading.{Lent, lent, word, behind, byte-at, size, Refusing, node-stored, edge-stored, stored, entering, one-more, counted, NetworkIn, front-network, front-columns, readied, Closed, accepted, refused, NetworkTaken, more-due, closes}
+use Rattle.records.specs.Reader.{word, behind, byte-at, size}
+use Rattle.card.specs.Reading.{Lent, lent, Refusing, node-stored, edge-stored, stored, entering, one-more, counted, NetworkIn, front-network, front-columns, readied, Closed, accepted, refused, NetworkTaken, more-due, closes}
 use Rattle.card.specs.Running.{EnoughColumns, Enough}
 use Rattle.card.proofs.RecordBytes.{node-bytes, edge-bytes}
 use Rattle.card.proofs.Invariant.{core, Accepted, NodesDue, EdgesDue, At, at-nodes, at-edges, at-ready, front-nodes, front-edges, Full, full-entries, full-bytes, behind-full, goes, Acts, after-record}

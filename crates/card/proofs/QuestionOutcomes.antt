@@ -25,11 +25,12 @@ use Rattle.legs.specs.Answers.{Travelled, no-room, found, Contracted, refuses, 
 use Rattle.legs.specs.Answers
 use Rattle.preparation.proofs.PreparedSound.{prepared-sound}
 use Rattle.contraction.proofs.UpDownExact.{least-plain, none-same}
-use Rattle.card.specs.declared.reader.Reader.{Reader}
+use Rattle.records.specs.declared.reader.Reader.{Reader}
 use Rattle.card.specs.Records.{question, bytes-of}
 use Rattle.lines.specs.Text.{journey-line, refusal-line, line-of}
 use Rattle.card.specs.Stream.{Stage, asking, Reply, names-no-node, no-journey, travels, asks}
-use Rattle.card.specs.Reading.{Lent, word, byte-at, size, done, Told, front-network, stage-after, Asked}
+use Rattle.records.specs.Reader.{word, byte-at, size, done}
+use Rattle.card.specs.Reading.{Lent, Told, front-network, stage-after, Asked}
 use Rattle.card.specs.Running.{EnoughColumns, Enough}
 use Rattle.lines.proofs.Lines.{refusal-most, journey-most}
 use Rattle.card.proofs.RecordBytes.{question-bytes}

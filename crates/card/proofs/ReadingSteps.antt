@@ -13,9 +13,10 @@ use Rattle.network.specs.Refusal.{sheet-order}
 use Rattle.network.specs.Answers.{shown, Checked}
 use Rattle.legs.specs.Answers.{Contracted}
 use Rattle.preparation.specs.Answers.{PreparedInto}
-use Rattle.card.specs.declared.reader.Reader.{Reader}
+use Rattle.records.specs.declared.reader.Reader.{Reader}
 use Rattle.lines.specs.Text.{line-of}
-use Rattle.card.specs.Reading.{Lent, holding, done, byte-at, word, size, Misplaced, Told, Refusing, HeadFits, head-nodes, head-edges, HeadTaken, fits, too-large, listed, StateTaken, NetworkKind, node-stored, edge-stored, stored, counted, NetworkIn, front-network, front-columns, Closed, NetworkTaken, stage-after, Asked, Taken, Fed, SimplyTaken, node-room, edge-room}
+use Rattle.records.specs.Reader.{holding, done, byte-at, word, size, Misplaced}
+use Rattle.card.specs.Reading.{Lent, Told, Refusing, HeadFits, head-nodes, head-edges, HeadTaken, fits, too-large, listed, StateTaken, NetworkKind, node-stored, edge-stored, stored, counted, NetworkIn, front-network, front-columns, Closed, NetworkTaken, stage-after, Asked, Taken, Fed, SimplyTaken, node-room, edge-room}
 
 pub no-network-kind : {kind : ℕ} → (kind ≡ 2 → ⊥) → (kind ≡ 3 → ⊥) → NetworkKind kind → ⊥
 no-network-kind a b (NetworkKind.a-node e) = a e

@@ -6,7 +6,7 @@ use native.Mathlib.Omega.{arith}
 use lib.ListN.{length, getD, take, drop, replicate, length-append, length-replicate, List·getD-append}
 use lib.Seq.{drop-cons, take-all}
 use Rattle.card.specs.Records.{Record, head, node, edge, sheet, state, question, end, bytes-of, Cut}
-use Rattle.card.specs.Reading.{word, size}
+use Rattle.records.specs.Reader.{word, size}
 use Rattle.card.specs.Running.{Bytes}
 
 high-byte : (high low : ℕ) → low < 256 → word high low / 256 ≡ high

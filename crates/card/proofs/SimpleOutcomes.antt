@@ -10,10 +10,11 @@ use Rattle.network.specs.Sheet.{Sheet, sheet-of}
 use Rattle.network.specs.Refusal.{Refused, Passed, sheet-order}
 use Rattle.network.specs.Answers.{shown, accepts, refuses}
 use Rattle.search.proofs.RefusalLaws.{checked-passed}
-use Rattle.card.specs.declared.reader.Reader.{Reader}
+use Rattle.records.specs.declared.reader.Reader.{Reader}
 use Rattle.card.specs.Records.{Record, head, sheet, state, end, bytes-of}
 use Rattle.card.specs.Stream.{Stage, start, listing, with-state, Open, announces, begins-sheet, lists, accepts-sheet, ends, Refuses, head-limits, state-count, bad-sheet}
-use Rattle.card.specs.Reading.{Lent, byte-at, size, Refusing, node-room, edge-room, head-nodes, head-edges, HeadTaken, fits, too-large, SheetTaken, begins, miscounted, state-at, states-with, StateTaken, more-due, accepted, refused, done}
+use Rattle.records.specs.Reader.{byte-at, size, done}
+use Rattle.card.specs.Reading.{Lent, Refusing, node-room, edge-room, head-nodes, head-edges, HeadTaken, fits, too-large, SheetTaken, begins, miscounted, state-at, states-with, StateTaken, more-due, accepted, refused}
 use Rattle.card.proofs.RecordBytes.{head-bytes, sheet-bytes, state-bytes, end-bytes}
 use Rattle.card.proofs.ToldLines.{told-stage, refusal-told}
 use Rattle.card.proofs.Invariant.{core, network-at, sheet-at, AcceptedAt, StatesDue, at-nodes, at-states, at-asking, at-end, Full, full-entries, full-bytes, goes, stops, Acts, after-record}

@@ -7,11 +7,12 @@ use Prim.Native.Nat.{ℕ, suc, _+_, _<_, _≤_}
 use native.Mathlib.Omega.{arith}
 use lib.ListN.{length, getD, take, length-append, List·getD-append}
 use Rattle.network.specs.Answers.{shown}
-use Rattle.card.specs.declared.reader.Reader.{Reader}
+use Rattle.records.specs.declared.reader.Reader.{Reader}
 use Rattle.card.specs.Records.{bytes-of}
 use Rattle.lines.specs.Text.{refusal-line}
 use Rattle.card.specs.Stream.{Stage, start, asking, ended, due, Open, no-sheet, some-sheet, Text, over, stops, misplaced, cut, goes-on, refuses, StreamText}
-use Rattle.card.specs.Reading.{Lent, begun, holding, done, byte-at, awaits, size, Refusing, node-room, edge-room, HeadTaken, SheetTaken, StateTaken, SimplyTaken, a-head, a-sheet, a-state, the-end, unknown, NetworkKind, Asked, Taken, of-network, question, other, Fed, Finished}
+use Rattle.records.specs.Reader.{begun, holding, done, byte-at, awaits, size}
+use Rattle.card.specs.Reading.{Lent, Refusing, node-room, edge-room, HeadTaken, SheetTaken, StateTaken, SimplyTaken, a-head, a-sheet, a-state, the-end, unknown, NetworkKind, Asked, Taken, of-network, question, other, Fed, Finished}
 use Rattle.card.specs.Running.{Bytes, Enough, told-line, Run, finishes, reads}
 use Rattle.card.proofs.RecordBytes.{Known, known-cut}
 use Rattle.card.proofs.ToldLines.{told-stage, refusal-told}

@@ -8,7 +8,7 @@ use borrow.Author.Tests.{ne-eqb}
 use lib.ListN.{length, take, drop, length-append, length-drop}
 use lib.Seq.{take-append-seam}
 use Rattle.network.specs.Answers.{shown}
-use Rattle.card.specs.declared.reader.Reader.{Reader}
+use Rattle.records.specs.declared.reader.Reader.{Reader}
 use Rattle.lines.specs.Text.{journey-line, refusal-line, line-of, LineWritten, fits, short}
 use Rattle.card.specs.Reading.{Told, Refusing}
 use Rattle.card.specs.Running.{told-line}

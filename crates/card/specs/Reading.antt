@@ -1,5 +1,4 @@
--- What the reader does with a byte of a stream, for any reader and all that is lent to it. Its stages: 0 the head is due, 1 nodes, 2 edges, 3 a
--- sheet, 4 states, 5 anything that may follow a sheet; 6 the stream has ended, 7 it was refused and is over.
+-- What the reader does with a byte of a stream, for any reader and all that is lent to it.
 use mathlib.Core.Path.{_≡_}
 use mathlib.Core.Bool.{Bool, true, false, cond}
 use mathlib.Core.List.{List, []}
@@ -15,7 +14,8 @@ use Rattle.network.specs.Refusal.{sheet-order}
 use Rattle.network.specs.Answers.{shown, Checked}
 use Rattle.legs.specs.Answers.{Contracted}
 use Rattle.preparation.specs.Answers.{PreparedInto}
-use Rattle.card.specs.declared.reader.Reader.{Reader}
+use Rattle.records.specs.declared.reader.Reader.{Reader}
+use Rattle.records.specs.Reader.{holding, behind, done, byte-at, word, Misplaced, size}
 use Rattle.lines.specs.Text.{line-of, LineWritten}
 use Rattle.card.specs.Stream.{HeadFine, blank}
 
@@ -30,91 +30,6 @@ pub record Lent : Type 0 where
 
 abbrev pub lent : Network → Columns → (journey wide narrow line : List ℕ) → Lent
 lent N T journey wide narrow line = record { network = N; shortcuts = T; journey = journey; wide = wide; narrow = narrow; line = line }
-
--- the reader ----------------------------------------------------------------------------------------------------------------------------------
-
--- before the first byte
-abbrev pub begun : Reader
-begun = record {
-  stage = 0;
-  offset = 0;
-  held = 0;
-  bytes = replicate 8 0;
-  nodes = 0;
-  edges = 0;
-  entered = 0;
-  shortcuts = 0;
-  sheet = replicate 8 no-state;
-  states = 0;
-  written = 0;
-}
-
--- with a byte more of the record at hand; no record has more than eight
-abbrev pub holding : Reader → ℕ → Reader
-holding r byte = record {
-  stage = r .stage;
-  offset = r .offset;
-  held = r .held % 8 + 1;
-  bytes = set (r .bytes) (r .held % 8) byte;
-  nodes = r .nodes;
-  edges = r .edges;
-  entered = r .entered;
-  shortcuts = r .shortcuts;
-  sheet = r .sheet;
-  states = r .states;
-  written = 0;
-}
-
--- The record at hand is done with, and the next begins behind it. No stream is so long that the remainder matters.
-abbrev pub behind : Reader → ℕ
-behind r = r .offset % 4611686018427387904 + r .held % 16
-
-abbrev pub done : Reader → (stage written : ℕ) → Reader
-done r stage written = record {
-  stage = stage;
-  offset = behind r;
-  held = 0;
-  bytes = r .bytes;
-  nodes = r .nodes;
-  edges = r .edges;
-  entered = r .entered;
-  shortcuts = r .shortcuts;
-  sheet = r .sheet;
-  states = r .states;
-  written = written;
-}
-
--- the record's bytes
-abbrev pub byte-at : Reader → ℕ → ℕ
-byte-at r i = getD (r .bytes) i 0
-
-abbrev pub word : (high low : ℕ) → ℕ
-word high low = 256 * high + low
-
--- whether a record of this kind may come in this stage
-unfoldable pub awaits : (stage kind : ℕ) → Bool
-awaits stage kind =
-    cond (eqb stage 0) (eqb kind 1)
-    (cond (eqb stage 1) (eqb kind 2)
-    (cond (eqb stage 2) (eqb kind 3)
-    (cond (eqb stage 3) (cond (eqb kind 6) true (eqb kind 0))
-    (cond (eqb stage 4) (eqb kind 4)
-    (cond (eqb stage 5) (cond (eqb kind 6) true (cond (eqb kind 5) true (eqb kind 0))) false)))))
-
--- the byte begins a record that may not come
-pub record Misplaced (r : Reader) (byte : ℕ) : Type 0 where
-  pub first : r .held ≡ 0
-  pub not-due : awaits (r .stage) byte ≡ false
-
--- how many bytes a record of this kind has
-unfoldable pub size : ℕ → ℕ
-size kind =
-    cond (eqb kind 1) 5
-    (cond (eqb kind 2) 4
-    (cond (eqb kind 3) 8
-    (cond (eqb kind 4) 4
-    (cond (eqb kind 5) 5
-    (cond (eqb kind 6) 2 1)))))
 
 -- lines -------------------------------------------------------------------------------------------------------------------------------------
 

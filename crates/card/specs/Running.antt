@@ -5,7 +5,7 @@ use Prim.Native.Nat.{ℕ, _<_, _≤_}
 use lib.ListN.{length, take}
 use Rattle.network.specs.Network.{Network}
 use Rattle.network.specs.Rows.{Even}
-use Rattle.card.specs.declared.reader.Reader.{Reader}
+use Rattle.records.specs.declared.reader.Reader.{Reader}
 use Rattle.card.specs.Reading.{Lent, Fed, Finished}
 
 -- all of them are bytes

@@ -7,12 +7,12 @@ ghost use Rattle.card.specs.Reading.{front-network, front-columns, Asked
 use crate::fronts::front8;
 use crate::fronts::front16;
 use crate::fronts::front32;
-use crate::reader::Reader;
-use crate::reader::word_of;
 use crate::telling::tell;
 use contraction::contracted::search_contracted;
 use network::answer::Answer;
 use network::sheet::State;
+use records::reader::Reader;
+use records::reader::word_of;
 
 // Answers a question about the network of so many nodes and edges, and over so many shortcuts, in front of the columns.
 fn search_front(

@@ -5,18 +5,19 @@ ghost use Rattle.network.specs.Answers.{Decides};
 ghost use Rattle.network.specs.Network.{network};
 ghost use Rattle.network.specs.Rows.{columns};
 ghost use Rattle.preparation.specs.Answers.{PreparedInto};
-ghost use Rattle.card.specs.Reading.{word, byte-at, entering, stored, counted, NetworkIn, front-network, readied, Closed, NetworkTaken};
+ghost use Rattle.records.specs.Reader.{word, byte-at};
+ghost use Rattle.card.specs.Reading.{entering, stored, counted, NetworkIn, front-network, readied, Closed, NetworkTaken};
 use crate::fronts::front8;
 use crate::fronts::front16;
-use crate::reader::NODE;
-use crate::reader::Reader;
-use crate::reader::finish_record;
-use crate::reader::word_of;
 use crate::telling::refuse;
 use columns::put8;
 use columns::put16;
 use contraction::prepare::prepare;
 use network::answer::Answer;
+use records::reader::NODE;
+use records::reader::Reader;
+use records::reader::finish_record;
+use records::reader::word_of;
 
 // No network has more nodes or edges.
 const MOST: usize = 65536;

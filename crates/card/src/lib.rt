@@ -3,6 +3,7 @@ mod asking;
 mod building;
 mod fronts;
 mod listing;
-pub mod reader;
 pub mod stream;
 mod telling;
+
+pub use records::reader;

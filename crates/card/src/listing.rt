@@ -2,17 +2,17 @@
 ghost use mathlib.Core.Path.{_≡_};
 ghost use Rattle.network.specs.Answers.{Decides};
 ghost use Rattle.card.specs.Reading.{HeadFits, HeadTaken, SheetTaken, listed, StateTaken, SimplyTaken};
-use crate::reader::END;
-use crate::reader::HEAD;
-use crate::reader::Reader;
-use crate::reader::SHEET;
-use crate::reader::STATE;
-use crate::reader::finish_record;
-use crate::reader::word_of;
 use crate::telling::refuse;
 use network::answer::Answer;
 use network::sheet::State;
 use network::sheet::check_sheet;
+use records::reader::END;
+use records::reader::HEAD;
+use records::reader::Reader;
+use records::reader::SHEET;
+use records::reader::STATE;
+use records::reader::finish_record;
+use records::reader::word_of;
 
 // Whether there may be so many nodes and edges, and the columns have room for them.
 fn head_fits(nodes: usize, edges: usize, node_room: usize, edge_room: usize) -> bool

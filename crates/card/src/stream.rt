@@ -8,16 +8,16 @@ ghost use Rattle.card.specs.Reading.{lent, NetworkKind, Taken, Fed, Fini
 use crate::asking::take_question;
 use crate::building::take_network_record;
 use crate::listing::take_simply;
-use crate::reader::EDGE;
-use crate::reader::NODE;
-use crate::reader::QUESTION;
-use crate::reader::Reader;
-use crate::reader::finish_record;
-use crate::reader::hold;
-use crate::reader::misplaced;
-use crate::reader::record_size;
 use crate::telling::refuse;
 use network::answer::Answer;
+use records::reader::EDGE;
+use records::reader::NODE;
+use records::reader::QUESTION;
+use records::reader::Reader;
+use records::reader::finish_record;
+use records::reader::hold;
+use records::reader::misplaced;
+use records::reader::record_size;
 
 fn shorter(a: usize, b: usize) -> usize
     ensures { λ r. ⌜ r ≡ min a b ⌝ }

@@ -4,10 +4,10 @@ ghost use lib.ListN.{take};
 ghost use Rattle.network.specs.Answers.{shown};
 ghost use Rattle.lines.specs.Text.{line-of};
 ghost use Rattle.card.specs.Reading.{Told, Refusing, stage-after};
-use crate::reader::Reader;
-use crate::reader::finish_record;
 use lines::text::write_line;
 use network::answer::Answer;
+use records::reader::Reader;
+use records::reader::finish_record;
 
 // The stream is refused: nothing more is read.
 pub(crate) fn refuse(reader: Reader, number: u8, place: u64, line: &mut [u8]) -> Reader

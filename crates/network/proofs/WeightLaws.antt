@@ -246,6 +246,10 @@ held-≼-none {a} h = go (decLt (a .time) (none-yet .time))
     go (yes k) = below k
     go (no k) = level (omega (arith, h .time-held)) (h .edges-held)
 
+-- what ends before the largest time is lighter than none
+pub early-lighter-none : {a : Weight} → a .time < none-yet .time → Lighter a none-yet
+early-lighter-none l = sooner l
+
 -- the unit's sum is the sum, where that fits its number types
 pub sum-held : {a b r : Weight} → Sum a b r → Held (a ⊕ b) → r ≡ a ⊕ b
 sum-held (whole h e) k = e

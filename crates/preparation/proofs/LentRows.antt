@@ -18,13 +18,13 @@ use Rattle.preparation.proofs.MarkedRows.{row-marked, row-unmarked}
 -- as many rows ------------------------------------------------------------------------------------------------------------------------------------
 
 pub same-size : {T : Columns} → Even T → SameSize T T
-same-size v = record { even = v; size = refl }
+same-size v = record { was-even = v; even = v; size = refl }
 
 pub size-trans : {T U W : Columns} → SameSize T U → SameSize U W → SameSize T W
-size-trans a b = record { even = b .even; size = b .size ∙ a .size }
+size-trans a b = record { was-even = a .was-even; even = b .even; size = b .size ∙ a .size }
 
 pub size-put : {T : Columns} → Even T → (i : ℕ) (x : Row) → SameSize T (put-row T i x)
-size-put {T} v i x = record { even = put-even v i x; size = length-set (T .tails) i (x .tail) }
+size-put {T} v i x = record { was-even = v; even = put-even v i x; size = length-set (T .tails) i (x .tail) }
 
 -- each column is as long as it was
 pub record Lasting (T U : Columns) : Type 0 where
@@ -36,15 +36,15 @@ pub record Lasting (T U : Columns) : Type 0 where
   pub firsts-last : length (U .firsts) ≡ length (T .firsts)
   pub seconds-last : length (U .seconds) ≡ length (T .seconds)
 
-pub size-lasts : {T U : Columns} → Even T → SameSize T U → Lasting T U
-size-lasts v s = record {
+pub size-lasts : {T U : Columns} → SameSize T U → Lasting T U
+size-lasts s = record {
   tails-last = s .size;
-  heads-last = s .even .heads-even ∙ s .size ∙ sym (v .heads-even);
-  modes-last = s .even .modes-even ∙ s .size ∙ sym (v .modes-even);
-  lengths-last = s .even .lengths-even ∙ s .size ∙ sym (v .lengths-even);
-  counts-last = s .even .counts-even ∙ s .size ∙ sym (v .counts-even);
-  firsts-last = s .even .firsts-even ∙ s .size ∙ sym (v .firsts-even);
-  seconds-last = s .even .seconds-even ∙ s .size ∙ sym (v .seconds-even);
+  heads-last = s .even .heads-even ∙ s .size ∙ sym (s .was-even .heads-even);
+  modes-last = s .even .modes-even ∙ s .size ∙ sym (s .was-even .modes-even);
+  lengths-last = s .even .lengths-even ∙ s .size ∙ sym (s .was-even .lengths-even);
+  counts-last = s .even .counts-even ∙ s .size ∙ sym (s .was-even .counts-even);
+  firsts-last = s .even .firsts-even ∙ s .size ∙ sym (s .was-even .firsts-even);
+  seconds-last = s .even .seconds-even ∙ s .size ∙ sym (s .was-even .seconds-even);
 }
 
 -- rows that are appended ---------------------------------------------------------------------------------------------------------------------------

@@ -24,7 +24,7 @@ all-size (Preparing.fits a b c) = c
 all-size (Preparing.exceeds a b c) = c
 
 pub zero-size : {T T′ T″ : Columns} {ss : List Row} → SameSize T T′ → Holds T″ (length (T′ .tails)) ss → SameSize T T″
-zero-size s h = record { even = h .even; size = h .size ∙ s .size }
+zero-size s h = record { was-even = s .was-even; even = h .even; size = h .size ∙ s .size }
 
 pub clear-sizes : {wide narrow wide′ narrow′ wide″ narrow″ : List ℕ} → SameRooms wide narrow wide′ narrow′ → Zeroed wide′ wide″ narrow′ narrow″
     → SameRooms wide narrow wide″ narrow″

@@ -264,7 +264,7 @@ contracting-start N limit T wide narrow last s e = record {
   contracts = done (sym (front-none T));
   stage = subst (Stage N (o .0)) (sym (front-none T)) (stage-start s (o .1));
   within = omega arith;
-  same-size = record { even = e; size = refl };
+  same-size = record { was-even = e; even = e; size = refl };
   same-rooms = record { wide-size = refl; narrow-size = refl };
 }
   where

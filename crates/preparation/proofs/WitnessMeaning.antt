@@ -7,7 +7,7 @@ use Prim.Native.Nat.{ℕ, _≤_}
 use native.Mathlib.Omega.{arith}
 use Rattle.network.specs.declared.weight.Weight.{Weight}
 use Rattle.network.specs.declared.rows.Row.{Row}
-use Rattle.network.specs.Weight.{zero-weight, _⊕_, Lighter, sooner, Held}
+use Rattle.network.specs.Weight.{zero-weight, _⊕_, Lighter, Held}
 use Rattle.network.specs.Order.{Before}
 use Rattle.network.specs.Network.{Network, Sound}
 use Rattle.network.specs.Rows.{Columns, Even, row, rows, cost, table, SoundTable}
@@ -21,6 +21,7 @@ use Rattle.network.proofs.WeightLaws.{
   held-≼-none,
   ⊕-time,
   ⊕-edges,
+  early-lighter-none,
 }
 use Rattle.network.proofs.RowLaws.{table-length, read-row, row-fine}
 use Rattle.search.specs.Witness.{Turn, turn-of, row-count, ridden, Ride, Path, stay, onward, along-rides, path-weight, Reported, within, beyond}
@@ -163,7 +164,7 @@ module _ (N : Network) (T : Columns) (s : Sound N) (even : Even T) (t : SoundTab
           subst₂ Lighter (called-cost C a b) (sym (weight-same true (q .rows)) ∙ q .weighs)
           (C .alone (q .rows) (subst₂ (λ y z. Through N (table T) v y z (q .rows)) (sym a) (sym b) (path-through true (q .path)))
           (path-avoids (q .path)))
-      told-heavier (beyond _ e) C a b = subst (Lighter sum) (sym e) (sooner (omega (arith, sum-time)))
+      told-heavier (beyond _ e) C a b = subst (Lighter sum) (sym e) (early-lighter-none (omega (arith, sum-time)))
 
     module _ {bound told : Weight} (enough : Lighter bound sum → ⊥) where
       -- no way is lighter than the sum

@@ -100,8 +100,9 @@ put-row T i x =
     columns (set (T .tails) i (x .tail)) (set (T .heads) i (x .head)) (set (T .modes) i (x .mode)) (set (T .lengths) i (x .length))
     (set (T .counts) i (x .count)) (set (T .firsts) i (x .first)) (set (T .seconds) i (x .second))
 
--- as many rows are lent as were
+-- as many rows are lent as were: the columns were even, and are
 pub record SameSize (T T′ : Columns) : Type 0 where
+  pub was-even : Even T
   pub even : Even T′
   pub size : length (T′ .tails) ≡ length (T .tails)
 

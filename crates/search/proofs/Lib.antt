@@ -7,8 +7,6 @@ pub mod Places
 pub mod Searches
 pub mod Answers
 pub mod Bounds
-pub mod Run
-pub mod Decided
 pub mod Filling
 pub mod Picking
 pub mod Offering

@@ -1,6 +1,6 @@
 -- `card::telling::tell` writes an answer's line. Assumes nothing.
 use mathlib.Core.Path.{_∙_, ap}
-use Rattle.card.specs.Reading.{done}
+use Rattle.records.specs.Reader.{done}
 use borrow.Author.Needs.{needs}
 use Rattle.card.proofs.telling.tell.Statement.{statement}
 use Rattle.card.proofs.telling.tell.Tie as tie

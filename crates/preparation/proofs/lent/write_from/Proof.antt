@@ -21,25 +21,25 @@ write-marked-requires : tie.Need-write-marked-requires Inv-loop μ-loop
 write-marked-requires c κs = (writing-size (c .before .before .before .before .before .before .before .before .loop .inv) .even, (c .before .before .before .before .before .before .before .before .before .before .before .before .before .before .before .before .before .before .pre .1 .0, c .before .before .before .before .before .before .before .before .before .before .before .before .before .before .before .before .before .before .pre .1 .1, c .before .before .before .before .before .before .before .loop-test .taken, c .before .before .before .before .before .before .before .before .loop .inv .keeps, c .before .before .before .before .before .before .before .before .before .before .before .before .before .before .before .before .before .before .pre .1 .3, omega (arith, c .before .before .before .before .before .before .before .before .before .before .before .before .before .before .before .before .before .before .pre .1 .4, writing-size (c .before .before .before .before .before .before .before .before .loop .inv) .size)))
 
 same-length : tie.Need-same-length Inv-loop μ-loop
-same-length c = size-lasts (c .before .before .before .before .before .before .before .before .before .before .before .before .before .before .before .before .before .before .before .before .before .before .before .before .before .before .before .before .before .before .before .before .before .before .pre .0) (size-trans (writing-size (c .before .before .before .before .before .before .before .before .before .before .before .before .before .before .before .before .before .before .before .before .before .before .before .before .loop .inv)) (appended-size (c .before .before .before .before .before .before .before .before .before .before .before .before .before .before .before .write-marked .ensures))) .tails-last
+same-length c = size-lasts (size-trans (writing-size (c .before .before .before .before .before .before .before .before .before .before .before .before .before .before .before .before .before .before .before .before .before .before .before .before .loop .inv)) (appended-size (c .before .before .before .before .before .before .before .before .before .before .before .before .before .before .before .write-marked .ensures))) .tails-last
 
 same-length-2 : tie.Need-same-length-2 Inv-loop μ-loop
-same-length-2 c = size-lasts (c .before .before .before .before .before .before .before .before .before .before .before .before .before .before .before .before .before .before .before .before .before .before .before .before .before .before .before .before .before .before .before .before .before .before .pre .0) (size-trans (writing-size (c .before .before .before .before .before .before .before .before .before .before .before .before .before .before .before .before .before .before .before .before .before .before .before .before .loop .inv)) (appended-size (c .before .before .before .before .before .before .before .before .before .before .before .before .before .before .before .write-marked .ensures))) .heads-last
+same-length-2 c = size-lasts (size-trans (writing-size (c .before .before .before .before .before .before .before .before .before .before .before .before .before .before .before .before .before .before .before .before .before .before .before .before .loop .inv)) (appended-size (c .before .before .before .before .before .before .before .before .before .before .before .before .before .before .before .write-marked .ensures))) .heads-last
 
 same-length-3 : tie.Need-same-length-3 Inv-loop μ-loop
-same-length-3 c = size-lasts (c .before .before .before .before .before .before .before .before .before .before .before .before .before .before .before .before .before .before .before .before .before .before .before .before .before .before .before .before .before .before .before .before .before .before .pre .0) (size-trans (writing-size (c .before .before .before .before .before .before .before .before .before .before .before .before .before .before .before .before .before .before .before .before .before .before .before .before .loop .inv)) (appended-size (c .before .before .before .before .before .before .before .before .before .before .before .before .before .before .before .write-marked .ensures))) .modes-last
+same-length-3 c = size-lasts (size-trans (writing-size (c .before .before .before .before .before .before .before .before .before .before .before .before .before .before .before .before .before .before .before .before .before .before .before .before .loop .inv)) (appended-size (c .before .before .before .before .before .before .before .before .before .before .before .before .before .before .before .write-marked .ensures))) .modes-last
 
 same-length-4 : tie.Need-same-length-4 Inv-loop μ-loop
-same-length-4 c = size-lasts (c .before .before .before .before .before .before .before .before .before .before .before .before .before .before .before .before .before .before .before .before .before .before .before .before .before .before .before .before .before .before .before .before .before .before .pre .0) (size-trans (writing-size (c .before .before .before .before .before .before .before .before .before .before .before .before .before .before .before .before .before .before .before .before .before .before .before .before .loop .inv)) (appended-size (c .before .before .before .before .before .before .before .before .before .before .before .before .before .before .before .write-marked .ensures))) .lengths-last
+same-length-4 c = size-lasts (size-trans (writing-size (c .before .before .before .before .before .before .before .before .before .before .before .before .before .before .before .before .before .before .before .before .before .before .before .before .loop .inv)) (appended-size (c .before .before .before .before .before .before .before .before .before .before .before .before .before .before .before .write-marked .ensures))) .lengths-last
 
 same-length-5 : tie.Need-same-length-5 Inv-loop μ-loop
-same-length-5 c = size-lasts (c .before .before .before .before .before .before .before .before .before .before .before .before .before .before .before .before .before .before .before .before .before .before .before .before .before .before .before .before .before .before .before .before .before .before .pre .0) (size-trans (writing-size (c .before .before .before .before .before .before .before .before .before .before .before .before .before .before .before .before .before .before .before .before .before .before .before .before .loop .inv)) (appended-size (c .before .before .before .before .before .before .before .before .before .before .before .before .before .before .before .write-marked .ensures))) .counts-last
+same-length-5 c = size-lasts (size-trans (writing-size (c .before .before .before .before .before .before .before .before .before .before .before .before .before .before .before .before .before .before .before .before .before .before .before .before .loop .inv)) (appended-size (c .before .before .before .before .before .before .before .before .before .before .before .before .before .before .before .write-marked .ensures))) .counts-last
 
 same-length-6 : tie.Need-same-length-6 Inv-loop μ-loop
-same-length-6 c = size-lasts (c .before .before .before .before .before .before .before .before .before .before .before .before .before .before .before .before .before .before .before .before .before .before .before .before .before .before .before .before .before .before .before .before .before .before .pre .0) (size-trans (writing-size (c .before .before .before .before .before .before .before .before .before .before .before .before .before .before .before .before .before .before .before .before .before .before .before .before .loop .inv)) (appended-size (c .before .before .before .before .before .before .before .before .before .before .before .before .before .before .before .write-marked .ensures))) .firsts-last
+same-length-6 c = size-lasts (size-trans (writing-size (c .before .before .before .before .before .before .before .before .before .before .before .before .before .before .before .before .before .before .before .before .before .before .before .before .loop .inv)) (appended-size (c .before .before .before .before .before .before .before .before .before .before .before .before .before .before .before .write-marked .ensures))) .firsts-last
 
 same-length-7 : tie.Need-same-length-7 Inv-loop μ-loop
-same-length-7 c = size-lasts (c .before .before .before .before .before .before .before .before .before .before .before .before .before .before .before .before .before .before .before .before .before .before .before .before .before .before .before .before .before .before .before .before .before .before .pre .0) (size-trans (writing-size (c .before .before .before .before .before .before .before .before .before .before .before .before .before .before .before .before .before .before .before .before .before .before .before .before .loop .inv)) (appended-size (c .before .before .before .before .before .before .before .before .before .before .before .before .before .before .before .write-marked .ensures))) .seconds-last
+same-length-7 c = size-lasts (size-trans (writing-size (c .before .before .before .before .before .before .before .before .before .before .before .before .before .before .before .before .before .before .before .before .before .before .before .before .loop .inv)) (appended-size (c .before .before .before .before .before .before .before .before .before .before .before .before .before .before .before .write-marked .ensures))) .seconds-last
 
 returns : tie.Need-returns Inv-loop μ-loop
 returns c = writing-over (c .before .before .before .before .before .before .before .before .before .before .before .before .before .before .before .before .before .before .before .before .before .before .before .before .loop .inv) (c .before .before .before .before .before .before .before .before .before .before .before .before .before .before .before .before .before .before .before .before .before .before .before .loop-test .taken) (c .before .before .before .before .before .before .before .before .before .before .before .before .before .before .before .write-marked .ensures) (c .if1 .taken)
@@ -54,25 +54,25 @@ loop-again : tie.Need-loop-again Inv-loop μ-loop
 loop-again c = writing-more (c .before .before .before .before .before .before .before .before .before .before .before .before .before .before .before .before .before .before .before .before .before .before .before .before .loop .inv) (c .before .before .before .before .before .before .before .before .before .before .before .before .before .before .before .before .before .before .before .before .before .before .before .loop-test .taken) (c .before .before .before .before .before .before .before .before .before .before .before .before .before .before .before .write-marked .ensures) (c .if1 .left)
 
 same-length-8 : tie.Need-same-length-8 Inv-loop μ-loop
-same-length-8 c = size-lasts (c .before .before .before .before .before .before .before .before .before .before .before .pre .0) (writing-size (c .before .loop .inv)) .tails-last
+same-length-8 c = size-lasts (writing-size (c .before .loop .inv)) .tails-last
 
 same-length-9 : tie.Need-same-length-9 Inv-loop μ-loop
-same-length-9 c = size-lasts (c .before .before .before .before .before .before .before .before .before .before .before .pre .0) (writing-size (c .before .loop .inv)) .heads-last
+same-length-9 c = size-lasts (writing-size (c .before .loop .inv)) .heads-last
 
 same-length-10 : tie.Need-same-length-10 Inv-loop μ-loop
-same-length-10 c = size-lasts (c .before .before .before .before .before .before .before .before .before .before .before .pre .0) (writing-size (c .before .loop .inv)) .modes-last
+same-length-10 c = size-lasts (writing-size (c .before .loop .inv)) .modes-last
 
 same-length-11 : tie.Need-same-length-11 Inv-loop μ-loop
-same-length-11 c = size-lasts (c .before .before .before .before .before .before .before .before .before .before .before .pre .0) (writing-size (c .before .loop .inv)) .lengths-last
+same-length-11 c = size-lasts (writing-size (c .before .loop .inv)) .lengths-last
 
 same-length-12 : tie.Need-same-length-12 Inv-loop μ-loop
-same-length-12 c = size-lasts (c .before .before .before .before .before .before .before .before .before .before .before .pre .0) (writing-size (c .before .loop .inv)) .counts-last
+same-length-12 c = size-lasts (writing-size (c .before .loop .inv)) .counts-last
 
 same-length-13 : tie.Need-same-length-13 Inv-loop μ-loop
-same-length-13 c = size-lasts (c .before .before .before .before .before .before .before .before .before .before .before .pre .0) (writing-size (c .before .loop .inv)) .firsts-last
+same-length-13 c = size-lasts (writing-size (c .before .loop .inv)) .firsts-last
 
 same-length-14 : tie.Need-same-length-14 Inv-loop μ-loop
-same-length-14 c = size-lasts (c .before .before .before .before .before .before .before .before .before .before .before .pre .0) (writing-size (c .before .loop .inv)) .seconds-last
+same-length-14 c = size-lasts (writing-size (c .before .loop .inv)) .seconds-last
 
 returns-2 : tie.Need-returns-2 Inv-loop μ-loop
 returns-2 c = writing-done (c .before .loop .inv) (c .loop-test .left)

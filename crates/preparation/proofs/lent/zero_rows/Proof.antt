@@ -31,25 +31,25 @@ loop-again : tie.Need-loop-again Inv-loop μ-loop
 loop-again c = zeroing-more (c .before .before .before .before .before .before .before .before .before .before .before .before .before .before .before .before .before .before .before .before .before .before .before .loop .inv) (c .before .before .before .before .before .before .before .before .before .before .before .before .before .before .before .before .before .before .before .before .before .before .loop-test .taken) (c .before .before .before .before .before .before .before .before .before .before .before .before .before .before .put-row .ensures)
 
 same-length : tie.Need-same-length Inv-loop μ-loop
-same-length c = size-lasts (c .before .before .before .before .before .before .before .before .before .pre .0) (c .before .loop .inv .same) .tails-last
+same-length c = size-lasts (c .before .loop .inv .same) .tails-last
 
 same-length-2 : tie.Need-same-length-2 Inv-loop μ-loop
-same-length-2 c = size-lasts (c .before .before .before .before .before .before .before .before .before .pre .0) (c .before .loop .inv .same) .heads-last
+same-length-2 c = size-lasts (c .before .loop .inv .same) .heads-last
 
 same-length-3 : tie.Need-same-length-3 Inv-loop μ-loop
-same-length-3 c = size-lasts (c .before .before .before .before .before .before .before .before .before .pre .0) (c .before .loop .inv .same) .modes-last
+same-length-3 c = size-lasts (c .before .loop .inv .same) .modes-last
 
 same-length-4 : tie.Need-same-length-4 Inv-loop μ-loop
-same-length-4 c = size-lasts (c .before .before .before .before .before .before .before .before .before .pre .0) (c .before .loop .inv .same) .lengths-last
+same-length-4 c = size-lasts (c .before .loop .inv .same) .lengths-last
 
 same-length-5 : tie.Need-same-length-5 Inv-loop μ-loop
-same-length-5 c = size-lasts (c .before .before .before .before .before .before .before .before .before .pre .0) (c .before .loop .inv .same) .counts-last
+same-length-5 c = size-lasts (c .before .loop .inv .same) .counts-last
 
 same-length-6 : tie.Need-same-length-6 Inv-loop μ-loop
-same-length-6 c = size-lasts (c .before .before .before .before .before .before .before .before .before .pre .0) (c .before .loop .inv .same) .firsts-last
+same-length-6 c = size-lasts (c .before .loop .inv .same) .firsts-last
 
 same-length-7 : tie.Need-same-length-7 Inv-loop μ-loop
-same-length-7 c = size-lasts (c .before .before .before .before .before .before .before .before .before .pre .0) (c .before .loop .inv .same) .seconds-last
+same-length-7 c = size-lasts (c .before .loop .inv .same) .seconds-last
 
 returns : tie.Need-returns Inv-loop μ-loop
 returns c = zeroing-done (c .before .before .before .before .before .before .before .before .before .pre .0) (c .before .loop .inv) (c .loop-test .left)

@@ -34,25 +34,25 @@ next-turn-requires : tie.Need-next-turn-requires Inv-loop μ-loop
 next-turn-requires c κs = tt
 
 same-length : tie.Need-same-length Inv-loop μ-loop
-same-length c = size-lasts (c .before .before .before .before .before .before .before .before .before .before .before .before .before .before .before .before .before .before .before .pre .1 .0) (c .before .before .before .loop .inv .same-size) .tails-last
+same-length c = size-lasts (c .before .before .before .loop .inv .same-size) .tails-last
 
 same-length-2 : tie.Need-same-length-2 Inv-loop μ-loop
-same-length-2 c = size-lasts (c .before .before .before .before .before .before .before .before .before .before .before .before .before .before .before .before .before .before .before .pre .1 .0) (c .before .before .before .loop .inv .same-size) .heads-last
+same-length-2 c = size-lasts (c .before .before .before .loop .inv .same-size) .heads-last
 
 same-length-3 : tie.Need-same-length-3 Inv-loop μ-loop
-same-length-3 c = size-lasts (c .before .before .before .before .before .before .before .before .before .before .before .before .before .before .before .before .before .before .before .pre .1 .0) (c .before .before .before .loop .inv .same-size) .modes-last
+same-length-3 c = size-lasts (c .before .before .before .loop .inv .same-size) .modes-last
 
 same-length-4 : tie.Need-same-length-4 Inv-loop μ-loop
-same-length-4 c = size-lasts (c .before .before .before .before .before .before .before .before .before .before .before .before .before .before .before .before .before .before .before .pre .1 .0) (c .before .before .before .loop .inv .same-size) .lengths-last
+same-length-4 c = size-lasts (c .before .before .before .loop .inv .same-size) .lengths-last
 
 same-length-5 : tie.Need-same-length-5 Inv-loop μ-loop
-same-length-5 c = size-lasts (c .before .before .before .before .before .before .before .before .before .before .before .before .before .before .before .before .before .before .before .pre .1 .0) (c .before .before .before .loop .inv .same-size) .counts-last
+same-length-5 c = size-lasts (c .before .before .before .loop .inv .same-size) .counts-last
 
 same-length-6 : tie.Need-same-length-6 Inv-loop μ-loop
-same-length-6 c = size-lasts (c .before .before .before .before .before .before .before .before .before .before .before .before .before .before .before .before .before .before .before .pre .1 .0) (c .before .before .before .loop .inv .same-size) .firsts-last
+same-length-6 c = size-lasts (c .before .before .before .loop .inv .same-size) .firsts-last
 
 same-length-7 : tie.Need-same-length-7 Inv-loop μ-loop
-same-length-7 c = size-lasts (c .before .before .before .before .before .before .before .before .before .before .before .before .before .before .before .before .before .before .before .pre .1 .0) (c .before .before .before .loop .inv .same-size) .seconds-last
+same-length-7 c = size-lasts (c .before .before .before .loop .inv .same-size) .seconds-last
 
 same-length-8 : tie.Need-same-length-8 Inv-loop μ-loop
 same-length-8 c = c .before .before .before .loop .inv .same-rooms .wide-size
@@ -75,25 +75,25 @@ contract-requires c κs = (
 )
 
 same-length-10 : tie.Need-same-length-10 Inv-loop μ-loop
-same-length-10 c = size-lasts (c .before .before .before .before .before .before .before .before .before .before .before .before .before .before .before .before .before .before .before .before .before .before .before .before .before .before .before .before .before .before .before .before .before .before .before .before .before .before .before .before .before .before .before .before .before .before .before .before .pre .1 .0) (size-trans (c .before .before .before .before .before .before .before .before .before .before .before .before .before .before .before .before .before .before .before .before .before .before .before .before .before .before .before .before .before .before .before .before .loop .inv .same-size) (turned-size (c .before .before .before .before .before .before .before .before .before .before .before .before .before .before .before .before .before .before .before .contract .ensures .0))) .tails-last
+same-length-10 c = size-lasts (size-trans (c .before .before .before .before .before .before .before .before .before .before .before .before .before .before .before .before .before .before .before .before .before .before .before .before .before .before .before .before .before .before .before .before .loop .inv .same-size) (turned-size (c .before .before .before .before .before .before .before .before .before .before .before .before .before .before .before .before .before .before .before .contract .ensures .0))) .tails-last
 
 same-length-11 : tie.Need-same-length-11 Inv-loop μ-loop
-same-length-11 c = size-lasts (c .before .before .before .before .before .before .before .before .before .before .before .before .before .before .before .before .before .before .before .before .before .before .before .before .before .before .before .before .before .before .before .before .before .before .before .before .before .before .before .before .before .before .before .before .before .before .before .before .pre .1 .0) (size-trans (c .before .before .before .before .before .before .before .before .before .before .before .before .before .before .before .before .before .before .before .before .before .before .before .before .before .before .before .before .before .before .before .before .loop .inv .same-size) (turned-size (c .before .before .before .before .before .before .before .before .before .before .before .before .before .before .before .before .before .before .before .contract .ensures .0))) .heads-last
+same-length-11 c = size-lasts (size-trans (c .before .before .before .before .before .before .before .before .before .before .before .before .before .before .before .before .before .before .before .before .before .before .before .before .before .before .before .before .before .before .before .before .loop .inv .same-size) (turned-size (c .before .before .before .before .before .before .before .before .before .before .before .before .before .before .before .before .before .before .before .contract .ensures .0))) .heads-last
 
 same-length-12 : tie.Need-same-length-12 Inv-loop μ-loop
-same-length-12 c = size-lasts (c .before .before .before .before .before .before .before .before .before .before .before .before .before .before .before .before .before .before .before .before .before .before .before .before .before .before .before .before .before .before .before .before .before .before .before .before .before .before .before .before .before .before .before .before .before .before .before .before .pre .1 .0) (size-trans (c .before .before .before .before .before .before .before .before .before .before .before .before .before .before .before .before .before .before .before .before .before .before .before .before .before .before .before .before .before .before .before .before .loop .inv .same-size) (turned-size (c .before .before .before .before .before .before .before .before .before .before .before .before .before .before .before .before .before .before .before .contract .ensures .0))) .modes-last
+same-length-12 c = size-lasts (size-trans (c .before .before .before .before .before .before .before .before .before .before .before .before .before .before .before .before .before .before .before .before .before .before .before .before .before .before .before .before .before .before .before .before .loop .inv .same-size) (turned-size (c .before .before .before .before .before .before .before .before .before .before .before .before .before .before .before .before .before .before .before .contract .ensures .0))) .modes-last
 
 same-length-13 : tie.Need-same-length-13 Inv-loop μ-loop
-same-length-13 c = size-lasts (c .before .before .before .before .before .before .before .before .before .before .before .before .before .before .before .before .before .before .before .before .before .before .before .before .before .before .before .before .before .before .before .before .before .before .before .before .before .before .before .before .before .before .before .before .before .before .before .before .pre .1 .0) (size-trans (c .before .before .before .before .before .before .before .before .before .before .before .before .before .before .before .before .before .before .before .before .before .before .before .before .before .before .before .before .before .before .before .before .loop .inv .same-size) (turned-size (c .before .before .before .before .before .before .before .before .before .before .before .before .before .before .before .before .before .before .before .contract .ensures .0))) .lengths-last
+same-length-13 c = size-lasts (size-trans (c .before .before .before .before .before .before .before .before .before .before .before .before .before .before .before .before .before .before .before .before .before .before .before .before .before .before .before .before .before .before .before .before .loop .inv .same-size) (turned-size (c .before .before .before .before .before .before .before .before .before .before .before .before .before .before .before .before .before .before .before .contract .ensures .0))) .lengths-last
 
 same-length-14 : tie.Need-same-length-14 Inv-loop μ-loop
-same-length-14 c = size-lasts (c .before .before .before .before .before .before .before .before .before .before .before .before .before .before .before .before .before .before .before .before .before .before .before .before .before .before .before .before .before .before .before .before .before .before .before .before .before .before .before .before .before .before .before .before .before .before .before .before .pre .1 .0) (size-trans (c .before .before .before .before .before .before .before .before .before .before .before .before .before .before .before .before .before .before .before .before .before .before .before .before .before .before .before .before .before .before .before .before .loop .inv .same-size) (turned-size (c .before .before .before .before .before .before .before .before .before .before .before .before .before .before .before .before .before .before .before .contract .ensures .0))) .counts-last
+same-length-14 c = size-lasts (size-trans (c .before .before .before .before .before .before .before .before .before .before .before .before .before .before .before .before .before .before .before .before .before .before .before .before .before .before .before .before .before .before .before .before .loop .inv .same-size) (turned-size (c .before .before .before .before .before .before .before .before .before .before .before .before .before .before .before .before .before .before .before .contract .ensures .0))) .counts-last
 
 same-length-15 : tie.Need-same-length-15 Inv-loop μ-loop
-same-length-15 c = size-lasts (c .before .before .before .before .before .before .before .before .before .before .before .before .before .before .before .before .before .before .before .before .before .before .before .before .before .before .before .before .before .before .before .before .before .before .before .before .before .before .before .before .before .before .before .before .before .before .before .before .pre .1 .0) (size-trans (c .before .before .before .before .before .before .before .before .before .before .before .before .before .before .before .before .before .before .before .before .before .before .before .before .before .before .before .before .before .before .before .before .loop .inv .same-size) (turned-size (c .before .before .before .before .before .before .before .before .before .before .before .before .before .before .before .before .before .before .before .contract .ensures .0))) .firsts-last
+same-length-15 c = size-lasts (size-trans (c .before .before .before .before .before .before .before .before .before .before .before .before .before .before .before .before .before .before .before .before .before .before .before .before .before .before .before .before .before .before .before .before .loop .inv .same-size) (turned-size (c .before .before .before .before .before .before .before .before .before .before .before .before .before .before .before .before .before .before .before .contract .ensures .0))) .firsts-last
 
 same-length-16 : tie.Need-same-length-16 Inv-loop μ-loop
-same-length-16 c = size-lasts (c .before .before .before .before .before .before .before .before .before .before .before .before .before .before .before .before .before .before .before .before .before .before .before .before .before .before .before .before .before .before .before .before .before .before .before .before .before .before .before .before .before .before .before .before .before .before .before .before .pre .1 .0) (size-trans (c .before .before .before .before .before .before .before .before .before .before .before .before .before .before .before .before .before .before .before .before .before .before .before .before .before .before .before .before .before .before .before .before .loop .inv .same-size) (turned-size (c .before .before .before .before .before .before .before .before .before .before .before .before .before .before .before .before .before .before .before .contract .ensures .0))) .seconds-last
+same-length-16 c = size-lasts (size-trans (c .before .before .before .before .before .before .before .before .before .before .before .before .before .before .before .before .before .before .before .before .before .before .before .before .before .before .before .before .before .before .before .before .loop .inv .same-size) (turned-size (c .before .before .before .before .before .before .before .before .before .before .before .before .before .before .before .before .before .before .before .contract .ensures .0))) .seconds-last
 
 same-length-17 : tie.Need-same-length-17 Inv-loop μ-loop
 same-length-17 c = same-rooms-on (c .before .before .before .before .before .before .before .before .before .before .before .before .before .before .before .before .before .before .before .before .before .before .before .before .before .before .before .before .before .before .before .before .loop .inv .same-rooms) (c .before .before .before .before .before .before .before .before .before .before .before .before .before .before .before .before .before .before .before .contract .ensures .1) .wide-size
@@ -118,25 +118,25 @@ loop-again : tie.Need-loop-again Inv-loop μ-loop
 loop-again c = contracting-more _ _ _ _ _ _ _ _ _ _ _ _ (c .before .before .before .before .before .before .before .before .before .before .before .before .before .before .before .before .before .before .before .before .before .before .before .before .before .before .before .before .before .before .before .before .before .before .before .before .before .before .before .before .before .before .before .before .before .before .before .before .pre .0 .0) (c .before .before .before .before .before .before .before .before .before .before .before .before .before .before .before .before .before .before .before .before .before .before .before .before .before .before .before .before .before .before .before .before .loop .inv) _ (c .before .before .before .before .before .before .before .before .before .before .before .before .before .before .before .before .before .before .before .before .before .before .before .before .before .before .before .before .before .before .next-turn .ensures) (c .before .before .before .before .before .before .before .before .before .before .before .before .before .before .before .before .before .before .before .before .before .before .before .before .before .before .before .before .before .if1 .left) _ (c .before .before .before .before .before .before .before .before .before .before .before .before .before .before .before .before .before .before .before .contract .ensures .0) (c .if2 .left) (c .before .before .before .before .before .before .before .before .before .before .before .before .before .before .before .before .before .before .before .contract .ensures .1)
 
 same-length-19 : tie.Need-same-length-19 Inv-loop μ-loop
-same-length-19 c = size-lasts (c .before .before .before .before .before .before .before .before .before .before .before .before .before .before .before .before .before .pre .1 .0) (c .before .loop .inv .same-size) .tails-last
+same-length-19 c = size-lasts (c .before .loop .inv .same-size) .tails-last
 
 same-length-20 : tie.Need-same-length-20 Inv-loop μ-loop
-same-length-20 c = size-lasts (c .before .before .before .before .before .before .before .before .before .before .before .before .before .before .before .before .before .pre .1 .0) (c .before .loop .inv .same-size) .heads-last
+same-length-20 c = size-lasts (c .before .loop .inv .same-size) .heads-last
 
 same-length-21 : tie.Need-same-length-21 Inv-loop μ-loop
-same-length-21 c = size-lasts (c .before .before .before .before .before .before .before .before .before .before .before .before .before .before .before .before .before .pre .1 .0) (c .before .loop .inv .same-size) .modes-last
+same-length-21 c = size-lasts (c .before .loop .inv .same-size) .modes-last
 
 same-length-22 : tie.Need-same-length-22 Inv-loop μ-loop
-same-length-22 c = size-lasts (c .before .before .before .before .before .before .before .before .before .before .before .before .before .before .before .before .before .pre .1 .0) (c .before .loop .inv .same-size) .lengths-last
+same-length-22 c = size-lasts (c .before .loop .inv .same-size) .lengths-last
 
 same-length-23 : tie.Need-same-length-23 Inv-loop μ-loop
-same-length-23 c = size-lasts (c .before .before .before .before .before .before .before .before .before .before .before .before .before .before .before .before .before .pre .1 .0) (c .before .loop .inv .same-size) .counts-last
+same-length-23 c = size-lasts (c .before .loop .inv .same-size) .counts-last
 
 same-length-24 : tie.Need-same-length-24 Inv-loop μ-loop
-same-length-24 c = size-lasts (c .before .before .before .before .before .before .before .before .before .before .before .before .before .before .before .before .before .pre .1 .0) (c .before .loop .inv .same-size) .firsts-last
+same-length-24 c = size-lasts (c .before .loop .inv .same-size) .firsts-last
 
 same-length-25 : tie.Need-same-length-25 Inv-loop μ-loop
-same-length-25 c = size-lasts (c .before .before .before .before .before .before .before .before .before .before .before .before .before .before .before .before .before .pre .1 .0) (c .before .loop .inv .same-size) .seconds-last
+same-length-25 c = size-lasts (c .before .loop .inv .same-size) .seconds-last
 
 same-length-26 : tie.Need-same-length-26 Inv-loop μ-loop
 same-length-26 c = c .before .loop .inv .same-rooms .wide-size

@@ -1,8 +1,8 @@
--- `card::reader::record_size` tells how long a record is. Assumes nothing.
+-- `records::reader::record_size` tells how long a record is. Assumes nothing.
 use borrow.Author.Tests.{eq-eqb, ne-eqb}
-use Rattle.card.specs.Reading.{size}
-use Rattle.card.proofs.reader.record_size.Statement.{statement}
-use Rattle.card.proofs.reader.record_size.Tie as tie
+use Rattle.records.specs.Reader.{size}
+use Rattle.records.proofs.reader.record_size.Statement.{statement}
+use Rattle.records.proofs.reader.record_size.Tie as tie
 
 returns : tie.Need-returns
 unfolding size

@@ -1,7 +1,7 @@
 // The reader of a card stream: how far it has come, and what it holds of the record at hand.
 ghost use mathlib.Core.Path.{_≡_};
 ghost use Rattle.network.specs.Answers.{Decides};
-ghost use Rattle.card.specs.Reading.{begun, holding, done, word, awaits, size, Misplaced};
+ghost use Rattle.records.specs.Reader.{begun, holding, done, word, awaits, size, Misplaced};
 use network::sheet::State;
 
 pub struct Reader {
@@ -43,19 +43,19 @@ impl Reader {
 }
 
 // The kinds of record: the end of the stream,
-pub(crate) const END: u8 = 0;
+pub const END: u8 = 0;
 // how many nodes and edges there are,
-pub(crate) const HEAD: u8 = 1;
+pub const HEAD: u8 = 1;
 // a node's mode and rank,
-pub(crate) const NODE: u8 = 2;
+pub const NODE: u8 = 2;
 // an edge's tail, head, mode and length,
-pub(crate) const EDGE: u8 = 3;
+pub const EDGE: u8 = 3;
 // a state's modes, next and ends,
-pub(crate) const STATE: u8 = 4;
+pub const STATE: u8 = 4;
 // from where to where,
-pub(crate) const QUESTION: u8 = 5;
+pub const QUESTION: u8 = 5;
 // and how many states a sheet has.
-pub(crate) const SHEET: u8 = 6;
+pub const SHEET: u8 = 6;
 
 // No stream is longer.
 const LONGEST: usize = 4611686018427387904;
@@ -85,7 +85,7 @@ pub fn begin() -> Reader
 }
 
 // With a byte more of the record at hand.
-pub(crate) fn hold(reader: Reader, byte: u8) -> Reader
+pub fn hold(reader: Reader, byte: u8) -> Reader
     ensures { λ r. ⌜ r ≡ holding reader byte ⌝ }
 {
     let at = reader.held % 8;
@@ -99,7 +99,7 @@ pub(crate) fn hold(reader: Reader, byte: u8) -> Reader
 }
 
 // The record at hand is done with, and the next begins behind it.
-pub(crate) fn finish_record(reader: Reader, stage: u8, written: usize) -> Reader
+pub fn finish_record(reader: Reader, stage: u8, written: usize) -> Reader
     ensures { λ r. ⌜ r ≡ done reader stage written ⌝ }
 {
     let mut next = reader;
@@ -111,7 +111,7 @@ pub(crate) fn finish_record(reader: Reader, stage: u8, written: usize) -> Reader
 }
 
 // A number of two bytes, big-endian.
-pub(crate) fn word_of(high: u8, low: u8) -> u16
+pub fn word_of(high: u8, low: u8) -> u16
     ensures { λ r. ⌜ r ≡ word high low ⌝ }
 {
     256 * high as u16 + low as u16
@@ -152,7 +152,7 @@ fn awaited(stage: u8, kind: u8) -> bool
 }
 
 // Whether the byte begins a record that may not come.
-pub(crate) fn misplaced(reader: Reader, byte: u8) -> bool
+pub fn misplaced(reader: Reader, byte: u8) -> bool
     ensures { λ r. ⌜ Decides r (Misplaced reader byte) ⌝ }
 {
     if reader.held != 0 {
@@ -165,7 +165,7 @@ pub(crate) fn misplaced(reader: Reader, byte: u8) -> bool
 }
 
 // How many bytes a record of this kind has.
-pub(crate) fn record_size(kind: u8) -> usize
+pub fn record_size(kind: u8) -> usize
     ensures { λ r. ⌜ r ≡ size kind ⌝ }
 {
     if kind == HEAD {

@@ -1,8 +1,8 @@
--- `card::reader::awaited` tells which kinds may come. Assumes nothing.
+-- `records::reader::awaited` tells which kinds may come. Assumes nothing.
 use borrow.Author.Tests.{eq-eqb, ne-eqb}
-use Rattle.card.specs.Reading.{awaits}
-use Rattle.card.proofs.reader.awaited.Statement.{statement}
-use Rattle.card.proofs.reader.awaited.Tie as tie
+use Rattle.records.specs.Reader.{awaits}
+use Rattle.records.proofs.reader.awaited.Statement.{statement}
+use Rattle.records.proofs.reader.awaited.Tie as tie
 
 returns : tie.Need-returns
 unfolding awaits

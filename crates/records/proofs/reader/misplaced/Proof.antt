@@ -1,9 +1,9 @@
--- `card::reader::misplaced` finds a record that may not come. Assumes nothing.
+-- `records::reader::misplaced` finds a record that may not come. Assumes nothing.
 use mathlib.Core.Path.{sym, _∙_}
 use mathlib.Core.Bool.{true≢false}
 use borrow.Author.Needs.{needs}
-use Rattle.card.proofs.reader.misplaced.Statement.{statement}
-use Rattle.card.proofs.reader.misplaced.Tie as tie
+use Rattle.records.proofs.reader.misplaced.Statement.{statement}
+use Rattle.records.proofs.reader.misplaced.Tie as tie
 
 returns : tie.Need-returns
 returns c = search needs

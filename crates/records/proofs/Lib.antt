@@ -1,0 +1,1 @@
+-- The promises of this crate are equations and a test: what they allow is one result only by the laws of the crates below.

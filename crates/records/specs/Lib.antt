@@ -1,0 +1,2 @@
+-- What the reader of a card stream holds, and how it goes on.
+pub mod Reader
