@@ -3,6 +3,8 @@ ghost use mathlib.Core.Path.{_≡_};
 ghost use Prim.Native.Nat.{_<_};
 ghost use lib.ListN.{getD, set};
 
+pub mod rooms;
+
 pub fn at8(bytes: &[u8], i: usize) -> u8
     ensures { λ r. ⌜ r ≡ getD (now (bytes .entry)) i 0 ⌝ }
 {

@@ -12,7 +12,8 @@ use Rattle.network.specs.Rows.{Columns}
 use Rattle.network.specs.Journey.{Journey}
 use Rattle.network.specs.Answers.{shown}
 use Rattle.search.specs.Orders.{plain-order}
-use Rattle.search.specs.Answers.{Untouched, legs-of, Answered}
+use Rattle.columns.specs.Rooms.{Untouched}
+use Rattle.search.specs.Answers.{legs-of, Answered}
 use Rattle.legs.specs.Answers.{Contracted}
 
 -- state q of a sheet: three bytes, modes, next and ends, and the states behind each other

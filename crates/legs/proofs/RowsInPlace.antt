@@ -20,7 +20,8 @@ use Rattle.network.proofs.RowLaws.{read-row, row-fine}
 use Rattle.network.proofs.Pigeonhole.{AllBelow}
 use Rattle.search.specs.UpDown.{UpDownJourney}
 use Rattle.search.specs.Orders.{rows-order}
-use Rattle.search.specs.Answers.{Zeroed, told, no-journey, no-room, found, Answered, refuses, searches}
+use Rattle.columns.specs.Rooms.{Zeroed}
+use Rattle.search.specs.Answers.{told, no-journey, no-room, found, Answered, refuses, searches}
 use Rattle.search.specs.Steps.{Table}
 use Rattle.search.proofs.RefusalLaws.{refused-avoids}
 use Rattle.search.proofs.LegLaws.{rows-ready}

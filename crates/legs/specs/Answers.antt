@@ -14,7 +14,8 @@ use Rattle.network.specs.Refusal.{Refused, Passed}
 use Rattle.network.specs.Answers.{shown}
 use Rattle.search.specs.UpDown.{UpDownJourney}
 use Rattle.search.specs.Orders.{rows-order}
-use Rattle.search.specs.Answers.{Untouched, Zeroed, told}
+use Rattle.columns.specs.Rooms.{Untouched, Zeroed}
+use Rattle.search.specs.Answers.{told}
 
 -- What the contracted search answers where no rule is broken. "Over sound rows its answer is the least weight of an accepted row path in which
 -- no inner node is contracted before both its neighbours .., or 7 where there is none."

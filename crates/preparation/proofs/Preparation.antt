@@ -11,7 +11,7 @@ use Rattle.network.specs.Rows.{Columns, rows, table}
 use Rattle.network.specs.Refusal.{Passed}
 use Rattle.network.specs.Answers.{shown, Checked}
 use Rattle.network.specs.Answers
-use Rattle.search.specs.Answers.{Zeroed}
+use Rattle.columns.specs.Rooms.{Zeroed}
 use Rattle.preparation.specs.Contraction.{Prepared}
 use Rattle.preparation.specs.Answers.{prepare-order, Fits, Holds, PreparedInto}
 use Rattle.preparation.specs.Answers as Promises

@@ -10,7 +10,7 @@ use Rattle.network.specs.Rows.{Columns, Even, no-row, rows, table}
 use Rattle.network.specs.Refusal.{Rule, Refused, Passed, sizes, entries-order}
 use Rattle.network.specs.Answers.{shown}
 use Rattle.search.specs.Orders.{work-rooms}
-use Rattle.search.specs.Answers.{Untouched, Zeroed}
+use Rattle.columns.specs.Rooms.{Untouched, Zeroed}
 use Rattle.preparation.specs.Contraction.{Prepared}
 
 -- what preparation goes through, in 01's order: 1, 11, 2, 3, 4; "preparation may be lent any number of rows"

@@ -16,10 +16,10 @@ use crate::testing::test_from;
 use crate::turns::next_turn;
 use columns::at8;
 use columns::at32;
+use columns::rooms::clear;
 use network::answer::Answer;
 use network::check::check_network;
 use network::table::even_rows;
-use search::rooms::clear;
 
 // Edges and shortcuts together.
 const MOST_ROWS: usize = 4096;

@@ -23,7 +23,8 @@ use Rattle.network.proofs.Checking.{passed-sound, passed-table}
 use Rattle.network.proofs.RowLaws.{read-row, no-table}
 use Rattle.network.proofs.WeightLaws.{not-≼-lighter}
 use Rattle.search.specs.UpDown.{UpDownJourney}
-use Rattle.search.specs.Answers.{told, Sought, no-journey, no-room, found, Zeroed, Answered, refuses, searches}
+use Rattle.columns.specs.Rooms.{Zeroed}
+use Rattle.search.specs.Answers.{told, Sought, no-journey, no-room, found, Answered, refuses, searches}
 use Rattle.search.specs.Orders.{plain-order, rows-order}
 use Rattle.search.specs.Graph.{Greedy, Some, back}
 use Rattle.search.specs.Places.{search-graph}

@@ -7,7 +7,6 @@ pub mod Places
 pub mod Searches
 pub mod Answers
 pub mod Bounds
-pub mod Filling
 pub mod Picking
 pub mod Offering
 pub mod HomewardLaws

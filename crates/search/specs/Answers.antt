@@ -2,7 +2,7 @@
 use mathlib.Core.Path.{_≡_}
 use mathlib.Core.List.{List, _++_}
 use Prim.Native.Nat.{ℕ, _-_, _*_, _<_, _≤_}
-use lib.ListN.{length, drop, replicate}
+use lib.ListN.{length, drop}
 use Rattle.network.specs.declared.answer.Answer.{Answer}
 use Rattle.network.specs.declared.weight.Weight.{Weight}
 use Rattle.network.specs.declared.rows.Row.{Row}
@@ -10,16 +10,7 @@ use Rattle.network.specs.Network.{Network}
 use Rattle.network.specs.Journey.{weight, Least, None}
 use Rattle.network.specs.Refusal.{Rule, Refused, Passed}
 use Rattle.network.specs.Answers.{shown}
-
--- "untouched by 1 to 6, 10 and 11": the work rooms, before and after
-pub record Untouched (wide wide′ narrow narrow′ : List ℕ) : Type 0 where
-  pub wide-same : wide′ ≡ wide
-  pub narrow-same : narrow′ ≡ narrow
-
--- "all zero after 0, 7, 8, 9", however long they are
-pub record Zeroed (wide wide′ narrow narrow′ : List ℕ) : Type 0 where
-  pub wide-zero : wide′ ≡ replicate (length wide) 0
-  pub narrow-zero : narrow′ ≡ replicate (length narrow) 0
+use Rattle.columns.specs.Rooms.{Untouched, Zeroed}
 
 -- a number with the time and count of a path
 abbrev pub told : ℕ → Weight → Answer

@@ -12,7 +12,7 @@ use Rattle.network.specs.Order.{Before}
 use Rattle.network.specs.Network.{Network, network, edges}
 use Rattle.network.specs.Rows.{Columns, columns, cost}
 use Rattle.network.specs.Answers.{row-read}
-use Rattle.search.specs.Answers.{Untouched}
+use Rattle.columns.specs.Rooms.{Untouched}
 
 -- What a search is asked of: the columns as they are lent, whatever they hold, the node whose turn it is, and whether paths must avoid it.
 pub record Turn : Type 0 where

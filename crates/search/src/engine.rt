@@ -8,10 +8,10 @@ ghost use Rattle.search.specs.Steps.{Ready, Begins, Ran, Over, Started, 
 use crate::leave::leave;
 use crate::moves::bit;
 use crate::pick::pick;
-use crate::rooms::fill32;
-use crate::rooms::fill64;
 use columns::put32;
 use columns::put64;
+use columns::rooms::fill32;
+use columns::rooms::fill64;
 use network::sheet::State;
 
 // Labels the place of the state q at the node `from` with zero, if the state is initial.

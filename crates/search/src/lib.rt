@@ -7,8 +7,8 @@ mod legs;
 mod moves;
 mod pick;
 pub mod plain;
-pub mod rooms;
 pub mod rows;
 pub mod witness;
 
+pub use columns::rooms;
 pub use legs::Told;

@@ -9,7 +9,7 @@ ghost use Rattle.search.specs.Answers.{Answered, legs-of};
 ghost use Rattle.search.specs.Orders.{plain-order};
 use crate::engine::run;
 use crate::legs::deliver;
-use crate::rooms::clear;
+use columns::rooms::clear;
 use network::answer::Answer;
 use network::check::check_network;
 use network::check::check_question;

@@ -10,7 +10,7 @@ ghost use Rattle.search.specs.UpDown.{UpDownJourney};
 use crate::engine::run;
 use crate::legs::Told;
 use crate::legs::deliver;
-use crate::rooms::clear;
+use columns::rooms::clear;
 use network::answer::Answer;
 use network::check::check_network;
 use network::check::check_question;

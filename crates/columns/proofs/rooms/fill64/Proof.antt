@@ -1,10 +1,10 @@
--- `search::rooms::fill64` fills a room. Assumes nothing.
+-- `columns::rooms::fill64` fills a room. Assumes nothing.
 use Prim.Native.Nat.{_-_}
 use native.Mathlib.Omega.{arith}
 use lib.ListN.{length, length-set}
-use Rattle.search.proofs.Filling.{Filling, filling-start, filling-more, filling-done}
-use Rattle.search.proofs.rooms.fill64.Statement.{statement}
-use Rattle.search.proofs.rooms.fill64.Tie as tie
+use Rattle.columns.proofs.Filling.{Filling, filling-start, filling-more, filling-done}
+use Rattle.columns.proofs.rooms.fill64.Statement.{statement}
+use Rattle.columns.proofs.rooms.fill64.Tie as tie
 
 abbrev Inv-loop : tie.InvT-loop
 Inv-loop longs₀ value i₀ longs i = Filling longs₀ value longs i

@@ -1,9 +1,9 @@
 // The work rooms as a whole.
 ghost use mathlib.Core.Path.{_≡_};
 ghost use lib.ListN.{length, replicate};
-ghost use Rattle.search.specs.Answers.{Zeroed};
+ghost use Rattle.columns.specs.Rooms.{Zeroed};
 
-pub(crate) fn fill64(longs: &mut [u64], value: u64)
+pub fn fill64(longs: &mut [u64], value: u64)
     ensures { λ _. ⌜ now (longs .exit) ≡ replicate (length (now (longs .entry))) value ⌝ }
 {
     let mut i = 0;
@@ -13,7 +13,7 @@ pub(crate) fn fill64(longs: &mut [u64], value: u64)
     }
 }
 
-pub(crate) fn fill32(words: &mut [u32], value: u32)
+pub fn fill32(words: &mut [u32], value: u32)
     ensures { λ _. ⌜ now (words .exit) ≡ replicate (length (now (words .entry))) value ⌝ }
 {
     let mut i = 0;
