@@ -1,10 +1,10 @@
 -- What the reader does with a byte of a stream, for any reader and all that is lent to it.
 use mathlib.Core.Path.{_≡_}
-use mathlib.Core.Bool.{Bool, true, false, cond}
+use mathlib.Core.Bool.{cond}
 use mathlib.Core.List.{List, []}
-use Prim.Native.Nat.{ℕ, _+_, _*_, _%_, _<_, _≤_, min}
+use Prim.Native.Nat.{ℕ, _+_, _%_, _<_, _≤_, min}
 use lib.Dec.{eqb, ltb}
-use lib.ListN.{length, getD, take, set, replicate}
+use lib.ListN.{length, take, set, replicate}
 use Rattle.network.specs.declared.answer.Answer.{Answer}
 use Rattle.network.specs.declared.sheet.State.{State}
 use Rattle.network.specs.Network.{Network, network}

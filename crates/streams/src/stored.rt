@@ -2,6 +2,7 @@
 use crate::answering::answer;
 use columns::at8;
 use libc::STDOUT_FILENO;
+use records::reader::word_of;
 
 // No place of the input is as far.
 const FAR: usize = 65536;
@@ -27,14 +28,10 @@ fn write_name(input: &[u8], at: usize, n: usize) -> usize {
     n
 }
 
-fn length_of(high: u8, low: u8) -> usize {
-    256 * high as usize + low as usize
-}
-
 // The stored stream whose name begins at `at`. The place behind it.
 fn run_one(input: &[u8], at: usize, n: usize) -> usize {
     let behind = write_name(input, at, n) % FAR;
-    let length = length_of(at8(input, behind), at8(input, behind + 1)) % FAR;
+    let length = word_of(at8(input, behind), at8(input, behind + 1)) as usize;
     let from = behind + 2;
     let to = from + length;
     answer(input, from, to);

@@ -3,6 +3,7 @@ use columns::at8;
 use columns::put8;
 use columns::put16;
 use network::sheet::State;
+use records::reader::word_of;
 
 // No place of the input is as far.
 pub(crate) const FAR: usize = 65536;
@@ -13,10 +14,6 @@ pub struct Sizes {
     pub edges: u16,
     pub lent: u16,
     pub questions: u8,
-}
-
-fn word_of(high: u8, low: u8) -> u16 {
-    256 * high as u16 + low as u16
 }
 
 pub(crate) fn word_at(input: &[u8], at: usize) -> u16 {
