@@ -1,4 +1,6 @@
 // The card: the stream that is read, record by record, and the lines that the unit writes.
+#![tactic(auto)]
+
 mod asking;
 mod building;
 mod fronts;

@@ -1,4 +1,6 @@
 // Reads and writes of lent columns: past the end a read gives 0 and a write changes nothing, so no caller owes an index.
+#![tactic(auto)]
+
 ghost use Rattle.std.specs.Prelude.{◌≡◌, ◌<◌, get_or, set};
 
 pub mod rooms;

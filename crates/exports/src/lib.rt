@@ -1,4 +1,6 @@
 // The C interface of the core. A slice passes as a pointer and a length; include/journeys.h says the same to a C compiler.
+#![tactic(auto)]
+
 mod bytes;
 
 ghost use Rattle.network.specs.Answers.{Checked};

@@ -1,6 +1,8 @@
 // Reads one card stream from standard input and writes a line for each question, as the scope document says.
 //
 // The exit status is 0 however the stream ends: a refusal is an answer, and its line tells which. So a caller reads one channel.
+#![tactic(auto)]
+
 mod reading;
 
 use card::reader::begin;

@@ -1,2 +1,4 @@
 // The lines that the unit writes.
+#![tactic(auto)]
+
 pub mod text;

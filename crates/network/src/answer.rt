@@ -4,7 +4,7 @@ ghost use Rattle.network.specs.Answers.{shown};
 
 // Laid out as C lays it out: the exported functions hand it over by value.
 #[repr(C)]
-#[derive(Drop)]
+#[derive(Clone, Copy)]
 pub struct Answer {
     pub number: u8,
     pub place: u64,

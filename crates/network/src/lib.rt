@@ -1,4 +1,6 @@
 // The lowest layer: weights, the network's rules, and what a row costs. Document 01's words stand in specs/.
+#![tactic(auto)]
+
 pub mod answer;
 pub mod check;
 mod edges;

@@ -7,7 +7,7 @@ ghost use Rattle.network.specs.Rows.{columns, cost, edge_row, shortcut};
 use crate::weight::Weight;
 use columns::{at8, at16, at32};
 
-#[derive(Drop)]
+#[derive(Clone, Copy)]
 pub struct Row {
     pub tail: u16,
     pub head: u16,

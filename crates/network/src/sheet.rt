@@ -7,7 +7,7 @@ ghost use Rattle.network.specs.Steps.{Scanned};
 
 use crate::answer::Answer;
 
-#[derive(Drop)]
+#[derive(Clone, Copy)]
 pub struct State {
     // Bit i: mode i may be ridden.
     pub modes: u8,

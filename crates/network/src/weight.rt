@@ -2,7 +2,7 @@
 ghost use Rattle.network.specs.Answers.{Decides};
 ghost use Rattle.network.specs.Weight.{Sum, Lighter};
 
-#[derive(Drop)]
+#[derive(Clone, Copy)]
 pub struct Weight {
     pub time: u64,
     pub edges: u32,

@@ -1,4 +1,6 @@
 // Preparation: the shortcuts of a network.
+#![tactic(auto)]
+
 mod lent;
 mod neighbours;
 pub mod prepare;

@@ -5,7 +5,7 @@ ghost use Rattle.records.specs.Reader.{begun, holding, done, word, awaits, size,
 
 use network::sheet::State;
 
-#[derive(Drop)]
+#[derive(Clone, Copy)]
 pub struct Reader {
     pub stage: u8,
     // Of the first byte of the record at hand.

@@ -1,4 +1,6 @@
 // Runs both searches on the cases of the scope document and writes what each answers, one line a case.
+#![tactic(auto)]
+
 mod ask;
 mod crowd;
 mod damage;

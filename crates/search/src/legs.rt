@@ -11,7 +11,7 @@ use network::answer::Answer;
 use network::rows::row_at;
 
 // What a search over rows answers, and how many rows it wrote to the journey room.
-#[derive(Drop)]
+#[derive(Clone, Copy)]
 pub struct Told {
     pub answer: Answer,
     pub rows: usize,

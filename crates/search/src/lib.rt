@@ -1,4 +1,6 @@
 // The searches: plain, over rows, and for witnesses.
+#![tactic(auto)]
+
 mod engine;
 mod homeward;
 mod labels;

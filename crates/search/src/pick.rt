@@ -7,7 +7,7 @@ use crate::labels::{label_at, mark_at};
 use network::weight::Weight;
 
 // A waiting place and its label; past the last place and NONE where there is none.
-#[derive(Drop)]
+#[derive(Clone, Copy)]
 pub struct Choice {
     pub place: usize,
     pub best: Weight,

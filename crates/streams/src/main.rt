@@ -2,6 +2,8 @@
 //
 // Standard input holds the streams, each as its name, a line feed, its length as two bytes (big-endian) and its bytes. `reference streams` makes
 // that file, and what must be written for it, from the scope document.
+#![tactic(auto)]
+
 mod answering;
 mod stored;
 

@@ -10,7 +10,7 @@ use search::plain::search_plain;
 // How many bytes a question takes.
 pub(crate) const QUESTION_BYTES: usize = 29;
 
-#[derive(Drop)]
+#[derive(Clone, Copy)]
 struct Question {
     sheet: [State; 8],
     states: u8,

@@ -7,7 +7,7 @@ use records::reader::word_of;
 pub(crate) const FAR: usize = 65536;
 
 // How much of everything a stored network has.
-#[derive(Drop)]
+#[derive(Clone, Copy)]
 pub struct Sizes {
     pub nodes: u16,
     pub edges: u16,

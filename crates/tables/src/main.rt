@@ -5,6 +5,8 @@
 // Standard input holds the networks, each as its name, a line feed, the numbers of nodes, edges and lent rows (two bytes each) and of questions (one
 // byte), the six columns of the network, and the questions: a sheet of 24 bytes, its state count, from and to. Numbers are big-endian.
 // `reference tables` makes that file, and what must be written for it, from the scope document.
+#![tactic(auto)]
+
 mod asking;
 mod fronts;
 mod loading;
