@@ -1,0 +1,13 @@
+-- `search::legs::write_back` writes the rows that lead to a place. Assumes nothing.
+use native.Mathlib.Omega.{arith}
+use Rattle.network.specs.Network.{network}
+use Rattle.network.specs.Rows.{columns, table}
+use Rattle.search.specs.Delivery.{rows_to}
+use Rattle.search.proofs.LegLaws.{Writing, leads_in, write_start, write_turn, write_done}
+use Rattle.search.proofs.legs.write_back.Goals as goal
+
+pub loop-k-preserved : goal.loop-k-preserved
+loop-k-preserved c = write_turn c.requires.n_value.0 c.requires.n_value.1 _ c.loop-k-test.true c.loop-k.invariant c.row_before-r.ensures c.put16.ensures c.place_before-v.ensures
+
+pub returns : goal.returns
+returns c = write_done c.requires.n_value.0 c.requires.n_value.1 _ c.loop-k.invariant c.loop-k-test.false

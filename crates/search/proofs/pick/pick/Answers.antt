@@ -1,0 +1,15 @@
+-- `search::pick::pick` finds a lightest waiting place. Assumes nothing.
+use Prim.Native.Nat.{◌-◌}
+use native.Mathlib.Omega.{arith}
+use Rattle.search.specs.Labels.{label, mark}
+use Rattle.search.proofs.Picking.{Looking, look_start, look_more, look_done}
+use Rattle.search.proofs.pick.pick.Goals as goal
+
+pub loop-p-init : goal.loop-p-init
+loop-p-init c = look_start _ _ _
+
+pub loop-p-preserved : goal.loop-p-preserved
+loop-p-preserved c = look_more c.loop-p.invariant c.loop-p-test.true c.look-choice.ensures
+
+pub returns : goal.returns
+returns c = look_done c.loop-p.invariant c.loop-p-test.false

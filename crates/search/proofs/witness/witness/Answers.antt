@@ -1,0 +1,11 @@
+-- `search::witness::witness` makes the witness search. Assumes nothing.
+use mathlib.Core.Path.{refl, ◌∙◌}
+use native.Mathlib.Omega.{arith}
+use Rattle.network.proofs.Scanning.{decided_true, decided_false}
+use Rattle.search.specs.Witness.{unfit, searched}
+use Rattle.search.proofs.WitnessGraph.{narrow, found}
+use borrow.Author.Rules.{rules}
+use Rattle.search.proofs.witness.witness.Goals as goal
+
+pub returns-then-fits : goal.returns-then-fits
+returns-then-fits c = searched (decided_true c.fits2.ensures c.if-fits.true) refl (found (decided_true c.fits2.ensures c.if-fits.true) (narrow _ (λ i. omega (arith, c.shared_slice_known-5-1.given i)) (λ i. omega (arith, c.shared_slice_known-9-1.given i)) (λ i. omega (arith, c.shared_slice_known-10-1.given i))) c.spread.ensures c.close.ensures)
