@@ -1,0 +1,16 @@
+-- `lines::text::put_refusal` writes a refusal's line part by part. Assumes nothing.
+use native.Mathlib.Omega.{arith}
+use Rattle.lines.proofs.Storing.{put_length}
+use Rattle.lines.proofs.Lines.{length_refusal, refusal_put}
+use borrow.Author.Rules.{rules}
+use Rattle.lines.proofs.text.put_refusal.Goals as goal
+
+pub returns : goal.returns
+returns c =
+    refusal_put
+    c.args.number
+    c.args.place
+    c.put_byte-behind_mark.ensures
+    c.put_spaced-behind_number.ensures
+    c.put_spaced-behind_place.ensures
+    c.put_byte.ensures

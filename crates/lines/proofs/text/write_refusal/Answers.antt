@@ -1,0 +1,20 @@
+-- `lines::text::write_refusal` writes a refusal's line where it fits. Assumes nothing.
+use mathlib.Core.Path.{refl}
+use native.Mathlib.Omega.{arith}
+use Rattle.lines.specs.Text.{short}
+use Rattle.lines.proofs.Storing.{put_written}
+use Rattle.lines.proofs.Lines.{length_refusal}
+use borrow.Author.Rules.{rules}
+use Rattle.lines.proofs.text.write_refusal.Goals as goal
+
+pub returns : goal.returns
+returns c =
+    put_written
+    (omega (
+      arith,
+      length_refusal c.args.number c.args.place,
+      c.digit_count.ensures.0,
+      c.digit_count-2.ensures.0,
+      c.if-line-numbers.false,
+    ))
+    c.put_refusal.ensures
