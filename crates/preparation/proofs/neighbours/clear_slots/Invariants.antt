@@ -1,0 +1,11 @@
+-- `preparation::neighbours::clear_slots` notes that there is no row. Assumes nothing.
+use Prim.Native.Nat.{◌*◌, ◌-◌}
+use native.Mathlib.Omega.{arith}
+use Rattle.preparation.proofs.LeastNoted.{Clearing, clearing_start, clearing_more, clearing_done}
+use Rattle.preparation.proofs.neighbours.clear_slots.Given as goal
+
+abbrev pub invariant-loop-i : goal.invariant-loop-i
+invariant-loop-i l = Clearing l.nodes l.initial.narrow l.narrow l.i
+
+abbrev pub decreases-loop-i : goal.decreases-loop-i
+decreases-loop-i l = 4 * l.nodes - l.i

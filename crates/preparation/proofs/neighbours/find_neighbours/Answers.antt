@@ -1,0 +1,21 @@
+-- `preparation::neighbours::find_neighbours` notes the least rows into and out of v. Assumes nothing.
+use mathlib.Core.Path.{◌∙◌}
+use Prim.Native.Nat.{◌-◌}
+use native.Mathlib.Omega.{arith}
+use lib.ListN.{length}
+use Rattle.network.specs.Network.{network}
+use Rattle.network.specs.Rows.{columns}
+use Rattle.preparation.proofs.LeastNoted.{Noting, noting_start, noting_more, noting_done, few_read, turn_sized}
+use Rattle.preparation.proofs.neighbours.find_neighbours.Goals as goal
+
+pub loop-r-init : goal.loop-r-init
+loop-r-init c = noting_start _ _ _ c.clear_slots.ensures
+
+pub note_row-requires : goal.note_row-requires
+note_row-requires c = (c.requires.sound.sized.few_nodes, omega (arith, c.loop-r-test.true, few_read c.requires))
+
+pub loop-r-preserved : goal.loop-r-preserved
+loop-r-preserved c = noting_more _ _ _ (turn_sized c.requires c.clear_slots.ensures.size) c.loop-r.invariant c.loop-r-test.true c.note_row.ensures
+
+pub returns-clause-neighbours : goal.returns-clause-neighbours
+returns-clause-neighbours c = noting_done _ _ _ (turn_sized c.requires c.clear_slots.ensures.size) c.loop-r.invariant c.loop-r-test.false
