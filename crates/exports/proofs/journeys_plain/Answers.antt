@@ -1,0 +1,7 @@
+-- `exports::journeys_plain` refuses a sheet of a wrong length, else searches. Assumes nothing.
+use Rattle.exports.proofs.SheetLaws.{plain_refused, plain_asked}
+use borrow.Author.Rules.{rules}
+use Rattle.exports.proofs.journeys_plain.Goals as goal
+
+pub returns : goal.returns
+returns c = plain_asked c.if-sheet-ne-SHEET_BYTES.false c.read_sheet.ensures c.search_plain.ensures
