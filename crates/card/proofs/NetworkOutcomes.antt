@@ -13,7 +13,7 @@ use lib.Seq.{length-take-le, take-suc-set, get_or-take, take-append_seam, ext_ge
 use Rattle.network.specs.declared.answer.Answer.{Answer}
 use Rattle.network.specs.declared.rows.Row.{Row}
 use Rattle.network.specs.Network.{Network, network, nodes, edges, Sized}
-use Rattle.network.specs.Rows.{Columns, columns, Even, no_row, shortcut, table}
+use Rattle.network.specs.Rows.{Columns, Even, no_row, shortcut, table}
 use Rattle.network.specs.Refusal.{Refused, entries_order}
 use Rattle.network.proofs.RowLaws.{table_length, row-≡, table_at}
 use Rattle.search.specs.Orders.{Roomy}
@@ -23,7 +23,7 @@ use Rattle.records.specs.declared.reader.Reader.{Reader}
 use Rattle.card.specs.Records.{Record, node, edge, bytes_of}
 use Rattle.card.specs.Stream.{Stage, building, ready, HeadFine, with_node, with_edge, Brings, a_node, an_edge, Whole, grows, accepts, bad_network, too_many}
 use Rattle.records.specs.Reader.{word, behind, byte_at, size}
-use Rattle.card.specs.Reading.{Lent, lent, Refusing, node_stored, edge_stored, stored, entering, one_more, counted, NetworkIn, front_network, front_columns, readied, Closed, accepted, refused, NetworkTaken, more_due, closes}
+use Rattle.card.specs.Reading.{Lent, Refusing, node_stored, edge_stored, stored, entering, one_more, counted, NetworkIn, front_network, front_columns, readied, Closed, accepted, refused, NetworkTaken, more_due, closes}
 use Rattle.card.specs.Running.{EnoughColumns, Enough}
 use Rattle.card.proofs.RecordBytes.{node_bytes, edge_bytes}
 use Rattle.card.proofs.Invariant.{core, Accepted, NodesDue, EdgesDue, At, at_nodes, at_edges, at_ready, front_nodes, front_edges, Full, full_entries, full_bytes, behind_full, goes, Acts, after_record}

@@ -18,7 +18,6 @@ use Rattle.preparation.proofs.PrepareUnique.{prepare_unique}
 use Rattle.legs.proofs.ContractedUnique.{contracted_unique}
 use Rattle.legs.proofs.OpenUnique.{opened_into_unique}
 use Rattle.exports.specs.Calls.{SheetRefused, PlainCalled, ContractedCalled}
-use Rattle.exports.specs.Calls
 
 -- `journeys_check`
 pub check_call_unique : (N : Network) {a b : Answer} → Checked (network_order N) a → Checked (network_order N) b → a ≡ b

@@ -14,7 +14,6 @@ use Rattle.search.specs.Orders.{plain_order}
 use Rattle.search.specs.Answers.{legs_of, Answered}
 use Rattle.legs.specs.Answers.{Contracted}
 use Rattle.exports.specs.Calls.{state_read, states_read, SheetRefused, PlainCalled, ContractedCalled}
-use Rattle.exports.specs.Calls
 
 -- a state of three bytes that were read
 pub read_bytes : (bytes : List ℕ) (q : ℕ) {modes next ends : ℕ} → modes ≡ get_or bytes (3 * q) 0 → next ≡ get_or bytes (3 * q + 1) 0

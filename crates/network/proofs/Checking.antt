@@ -2,12 +2,11 @@
 use mathlib.Core.Path.{◌≡◌, refl}
 use mathlib.Core.Logic.{inl, inr}
 use mathlib.Core.List.{List, ◌∷◌}
-use Prim.Native.Nat.{ℕ}
 use native.Mathlib.Omega.{arith}
 use Rattle.network.specs.declared.answer.Answer.{Answer}
 use Rattle.network.specs.Network.{Network, Sound}
-use Rattle.network.specs.Rows.{Columns, RowsSized, SoundTable, table}
-use Rattle.network.specs.Refusal.{Rule, Refused, Passed, sizes, network_order, rows_order}
+use Rattle.network.specs.Rows.{Columns, SoundTable, table}
+use Rattle.network.specs.Refusal.{Rule, Passed, sizes, network_order, rows_order}
 use Rattle.network.specs.Answers.{shown, Checked, accepts, refuses}
 use Rattle.network.proofs.RowLaws.{table_length}
 

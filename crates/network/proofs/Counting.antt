@@ -1,6 +1,6 @@
 -- Counting by marks: how many of the numbers below `k` still wait, those whose mark in `s` is not 0. It is a loop's measure, a bound on how many
 -- turns it has had, and the pigeonhole.
-use mathlib.Core.Path.{◌≡◌, refl, sym, ap, ap₂, subst, ◌∙◌}
+use mathlib.Core.Path.{◌≡◌, refl, sym, ap, ap₂, ◌∙◌}
 use Prim.Native.Nat.{ℕ, zero, suc, ◌+◌, ◌<◌, ◌≤◌}
 use native.Mathlib.Omega.{arith}
 use native.Mathlib.Decide.{ℕ_discrete}

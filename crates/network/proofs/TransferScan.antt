@@ -1,12 +1,12 @@
 -- The pass over the edges that keeps the lowest transfer node that is not core.
-use mathlib.Core.Path.{◌≡◌, refl, sym, ◌∙◌, subst}
+use mathlib.Core.Path.{◌≡◌, refl, ◌∙◌, subst}
 use mathlib.Core.Logic.{◌⊎◌, inl, inr, ⊎_elim}
 use mathlib.Core.List.{List}
 use Prim.Native.Nat.{ℕ, ◌+◌, ◌<◌, ◌≤◌}
 use native.Mathlib.Omega.{arith}
 use native.Mathlib.Decide.{dec_lt}
 use Rattle.network.specs.Order.{Core}
-use Rattle.network.specs.Network.{Network, nodes, edges, edge_tail, edge_head, edge_mode, Transfer, TransferFine}
+use Rattle.network.specs.Network.{Network, nodes, edges, edge_tail, edge_head, edge_mode, TransferFine}
 use Rattle.network.specs.Steps.{Lowered, same, lower, LinkSeen, Scanned}
 
 lowered_falls : {ranks : List ℕ} {v low r : ℕ} → Lowered ranks v low r → r ≤ low

@@ -1,19 +1,19 @@
 -- For each public promise of this crate: two results that it allows for one input are equal. And the least weight is one.
 use mathlib.Core.Path.{◌≡◌, refl, sym, ◌∙◌, ap₂, subst}
 use mathlib.Core.Bool.{Bool, true, false}
-use mathlib.Core.Logic.{◌⊎◌, inl, inr}
+use mathlib.Core.Logic.{inl, inr}
 use mathlib.Core.List.{List, [], ◌∷◌}
-use Prim.Native.Nat.{ℕ, ◌<◌, ◌≤◌}
+use Prim.Native.Nat.{ℕ, ◌<◌}
 use native.Mathlib.Omega.{arith}
 use native.Mathlib.Decide.{dec_lt}
 use Rattle.network.specs.declared.answer.Answer.{Answer}
 use Rattle.network.specs.declared.weight.Weight.{Weight}
 use Rattle.network.specs.declared.rows.Row.{Row}
-use Rattle.network.specs.Weight.{◌⊕◌, Lighter, Sum, whole, too_large}
+use Rattle.network.specs.Weight.{Lighter, Sum, whole, too_large}
 use Rattle.network.specs.Network.{Network}
 use Rattle.network.specs.Sheet.{Sheet, SheetSound}
 use Rattle.network.specs.Rows.{Columns}
-use Rattle.network.specs.Journey.{weight, Least, None}
+use Rattle.network.specs.Journey.{Least, None}
 use Rattle.network.specs.Refusal.{
   Rule,
   Refused,

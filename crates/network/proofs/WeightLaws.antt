@@ -1,7 +1,7 @@
 -- Laws of weights: everything above this file goes by these and never looks into a weight.
 -- `Lighter` is a strict total order with `◌≼◌` beside it; `◌⊕◌` is a commutative monoid, monotone and cancellative; `none_yet` is on top of
 -- all weights that their number types hold.
-use mathlib.Core.Path.{◌≡◌, refl, sym, ◌∙◌, ap, subst}
+use mathlib.Core.Path.{◌≡◌, refl, ◌∙◌, ap, subst}
 use mathlib.Core.Logic.{◌⊎◌, inl, inr}
 use Prim.Native.Nat.{ℕ, zero, suc, ◌+◌, ◌≤◌, ◌<◌}
 use native.Mathlib.Omega.{arith}

@@ -1,5 +1,5 @@
 -- The numbers that the unit shows (01, "Numbers the unit shows"): rules, each with its number and place, and the first that is broken.
-use Rattle.std.specs.Prelude.{◌≡◌, ◌⊎◌, List, [], ◌∷◌, ℕ, ◌<◌, ◌≤◌, length}
+use Rattle.std.specs.Prelude.{◌≡◌, ◌⊎◌, List, [], ◌∷◌, ℕ, ◌<◌, ◌≤◌}
 use Rattle.network.specs.declared.rows.Row.{Row}
 use Rattle.network.specs.Network.{Network, nodes, edges, Sized, NodeFine, EdgeFine, TransferFine}
 use Rattle.network.specs.Sheet.{Sheet, Counted, StateFine, SheetSound}

@@ -1,6 +1,6 @@
 -- Weights (01, "Network and sheet"): "The weight of a path is (sum of lengths, number of edges), compared by time first. Weights have one
 -- addition, one order, a zero and a 'none yet' above all others".
-use Rattle.std.specs.Prelude.{◌≡◌, ℕ, ◌+◌, ◌<◌, ◌≤◌}
+use Rattle.std.specs.Prelude.{◌≡◌, ◌+◌, ◌<◌, ◌≤◌}
 use Rattle.network.specs.declared.weight.Weight.{Weight}
 
 -- the weight of the empty path

@@ -6,7 +6,6 @@ use mathlib.Core.List.{List, ◌∷◌, ◌++◌}
 use Prim.Native.Nat.{ℕ, zero, suc, ◌+◌, ◌<◌, ◌≤◌}
 use native.Mathlib.Omega.{arith}
 use native.Mathlib.Decide.{dec_le}
-use lib.ListN.{length}
 use Rattle.network.specs.declared.weight.Weight.{Weight}
 use Rattle.network.specs.declared.rows.Row.{Row}
 use Rattle.network.specs.Weight.{◌⊕◌, Lighter}
@@ -14,7 +13,7 @@ use Rattle.network.specs.Order.{Core}
 use Rattle.network.specs.Network.{Network, node_mode, Sound}
 use Rattle.network.specs.Rows.{no_row, row, rows, cost}
 use Rattle.network.specs.Journey.{weight}
-use Rattle.network.proofs.WeightLaws.{◌≼◌, ≼_refl, not-≼-lighter, lighter_mono_l, lighter_mono_r}
+use Rattle.network.proofs.WeightLaws.{≼_refl, not-≼-lighter, lighter_mono_l, lighter_mono_r}
 use Rattle.preparation.specs.Contraction.{Standing, LeastRow, CalledFor, Adds}
 use Rattle.legs.proofs.TableLaws.{mem_place, row_new, rows_append, EachSound, Fine}
 use Rattle.preparation.proofs.RemainingTurns.{Gone, Remaining, turn_node, turn_not_core, left_still}

@@ -1,18 +1,17 @@
 -- From the turns to what preparation answers.
-use mathlib.Core.Path.{◌≡◌, refl, sym, ◌∙◌, ap, subst}
-use mathlib.Core.List.{List, []}
-use Prim.Native.Nat.{ℕ, ◌%◌, ◌<◌, ◌≤◌, min}
+use mathlib.Core.Path.{◌≡◌, refl, ◌∙◌, ap, subst}
+use mathlib.Core.List.{List}
+use Prim.Native.Nat.{ℕ, ◌%◌, ◌<◌, ◌≤◌}
 use native.Mathlib.Omega.{arith}
 use lib.ListN.{length, replicate, length-replicate}
 use Rattle.network.specs.declared.answer.Answer.{Answer}
 use Rattle.network.specs.declared.rows.Row.{Row}
 use Rattle.network.specs.Network.{Network, edges}
-use Rattle.network.specs.Rows.{Columns, rows, table}
+use Rattle.network.specs.Rows.{Columns, table}
 use Rattle.network.specs.Refusal.{Passed}
 use Rattle.network.specs.Answers.{shown, Checked}
 use Rattle.network.specs.Answers
 use Rattle.columns.specs.Rooms.{Zeroed}
-use Rattle.preparation.specs.Contraction.{Prepared}
 use Rattle.preparation.specs.Answers.{prepare_order, Fits, Holds, PreparedInto}
 use Rattle.preparation.specs.Answers as Promises
 use Rattle.preparation.specs.Preparing.{front, SameSize, SameRooms, Most, AllTurned}

@@ -4,7 +4,7 @@ use mathlib.Core.Logic.{inl, inr}
 use Prim.Native.Nat.{ℕ}
 use native.Mathlib.Omega.{arith}
 use Rattle.network.specs.declared.answer.Answer.{Answer}
-use Rattle.network.specs.Network.{Network, Sized, Sound}
+use Rattle.network.specs.Network.{Network, Sound}
 use Rattle.network.specs.Rows.{Columns, Even}
 use Rattle.network.specs.Refusal.{Passed, entries_order, network_order}
 use Rattle.network.specs.Answers.{shown, Checked, refuses}

@@ -6,14 +6,14 @@ use mathlib.Core.List.{List, [], ◌∷◌, ◌++◌, append-nil}
 use Prim.Native.Nat.{ℕ, ◌+◌, ◌-◌, ◌*◌, ◌<◌, ◌≤◌}
 use native.Mathlib.Omega.{arith}
 use native.Mathlib.Decide.{dec_lt}
-use lib.ListN.{length, get_or}
+use lib.ListN.{get_or}
 use Rattle.network.specs.declared.weight.Weight.{Weight}
 use Rattle.network.specs.declared.rows.Row.{Row}
-use Rattle.network.specs.Weight.{zero_weight, ◌⊕◌, Lighter}
+use Rattle.network.specs.Weight.{zero_weight, Lighter}
 use Rattle.network.specs.Order.{Before}
 use Rattle.network.specs.Network.{Network, nodes, edges, Sound}
 use Rattle.network.specs.Rows.{no_row, row, rows, cost, MeetsLow, Joins, SoundRow, SoundTable}
-use Rattle.network.proofs.WeightLaws.{◌≼◌, ≼-antisym, ≼-lighter, not_lighter-≼, zero-⊕, ≡-≼}
+use Rattle.network.proofs.WeightLaws.{≼-antisym, ≼-lighter, not_lighter-≼, zero-⊕, ≡-≼}
 use Rattle.network.proofs.OrderLaws.{before_dec, before_total}
 use Rattle.network.proofs.RowLaws.{row_edge}
 use Rattle.preparation.specs.Contraction.{CalledFor, Adds, Order, Contracts, done, turn, Prepared}

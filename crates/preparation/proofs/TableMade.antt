@@ -1,6 +1,6 @@
 -- What preparation made: the first rows of the columns that it was lent are the shortcuts, and they keep the rules of a row table. So over them the
 -- search over rows is refused exactly where the plain search is.
-use mathlib.Core.Path.{◌≡◌, refl, sym, ap, subst, ◌∙◌}
+use mathlib.Core.Path.{◌≡◌, sym, ap, subst, ◌∙◌}
 use mathlib.Core.Logic.{inl, inr}
 use mathlib.Core.List.{List, [], ◌∷◌, ◌++◌}
 use Prim.Native.Nat.{ℕ, ◌≤◌}

@@ -5,16 +5,16 @@ use mathlib.Core.List.{List, [], ◌∷◌, ◌++◌, append-nil, append_assoc, 
 use Prim.Native.Nat.{ℕ, ◌+◌, ◌-◌, ◌<◌, ◌≤◌, min}
 use native.Mathlib.Omega.{arith}
 use lib.ListN.{length, get_or, take, length-take, length-append}
-use lib.Seq.{take-take, take-append-le}
+use lib.Seq.{take-take}
 use Rattle.network.specs.declared.rows.Row.{Row}
 use Rattle.network.specs.Network.{Network, nodes, edges, node_mode, Sound}
-use Rattle.network.specs.Rows.{Columns, Even, rows, table, SoundTable}
+use Rattle.network.specs.Rows.{Columns, Even, table, SoundTable}
 use Rattle.network.specs.Order.{Before}
 use Rattle.network.proofs.OrderLaws.{before_irrefl}
 use Rattle.network.proofs.Pigeonhole.{Absent, Distinct, no_more, and, AllBelow, pigeonhole}
 use Rattle.network.proofs.RowLaws.{table_length}
 use Rattle.search.specs.Orders.{Roomy}
-use Rattle.preparation.specs.Contraction.{CalledFor, Rising, Adds, Order, Contracts, done, turn, Prepared}
+use Rattle.preparation.specs.Contraction.{Order, Contracts, done, turn}
 use Rattle.preparation.specs.Preparing.{
   Due,
   NextTurn,
@@ -36,7 +36,7 @@ use Rattle.preparation.specs.Preparing.{
   AllTurned,
 }
 use Rattle.preparation.specs.Preparing
-use Rattle.preparation.proofs.PreparedUnique.{Front, contracts_join, prepared_turn}
+use Rattle.preparation.proofs.PreparedUnique.{contracts_join, prepared_turn}
 use Rattle.preparation.proofs.RemainingTurns.{Remaining, order_remaining, turn_not_core}
 use Rattle.preparation.proofs.PreparedSound.{Stage, stage_start, stage_turn, stage_table}
 use Rattle.preparation.proofs.SortedLists.{Sorted}

@@ -3,10 +3,9 @@ use Rattle.std.specs.Prelude.{◌≡◌, Bool, true, cond, ℕ, zero, suc, ◌+�
 use mathlib.Core.List.{List, [], ◌∷◌, ◌++◌, Memᴰ}
 use Rattle.network.specs.declared.weight.Weight.{Weight}
 use Rattle.network.specs.declared.rows.Row.{Row}
-use Rattle.network.specs.Weight.{◌⊕◌, Lighter}
 use Rattle.network.specs.Order.{Core, Before}
 use Rattle.network.specs.Network.{Network, nodes, node_mode, Sound}
-use Rattle.network.specs.Rows.{Columns, columns, Even, row, cost, table, SoundTable}
+use Rattle.network.specs.Rows.{Columns, columns, Even, row, table, SoundTable}
 use Rattle.search.specs.Orders.{Roomy}
 use Rattle.preparation.specs.Contraction.{Standing, LeastRow, CalledFor, Rising, Adds, Prepared}
 

@@ -6,19 +6,16 @@ use native.Mathlib.Decide.{map_dec, dec_lt, ℕ_discrete}
 use Rattle.network.specs.declared.weight.Weight.{Weight}
 use Rattle.network.specs.declared.rows.Row.{Row}
 use Rattle.network.specs.Weight.{zero_weight}
-use Rattle.network.specs.Order.{Before}
 use Rattle.network.specs.Network.{Network, nodes, Sound}
-use Rattle.network.specs.Sheet.{Sheet, Counted, entry}
+use Rattle.network.specs.Sheet.{Sheet, entry}
 use Rattle.network.specs.Rows.{SoundTable}
-use Rattle.network.specs.Journey.{weight, Journey, Least, None}
-use Rattle.network.proofs.RowLaws.{no_table}
-use Rattle.search.specs.UpDown.{UpDownJourney}
+use Rattle.network.specs.Journey.{weight, Least, None}
 use Rattle.search.proofs.Deciding.{◌&◌, bit_known}
 use Rattle.search.specs.Graph.{Greedy, Lightest, Nobody, Unmet, back}
 use Rattle.search.proofs.Greedy.{greedy_stop, greedy_nowhere, tracing_start, traced}
-use Rattle.search.specs.Places.{node_of, state_of, phase_of, StartAt, TargetAt, search_graph, Flat}
+use Rattle.search.specs.Places.{node_of, state_of, phase_of, StartAt, TargetAt, search_graph}
 use Rattle.search.proofs.Places.{after_all_along}
-use Rattle.search.proofs.Searches.{Walks, legs, search_laws, search_counts, up_down_walks, plain_walks, best_least, nowhere_none}
+use Rattle.search.proofs.Searches.{Walks, legs, search_laws, search_counts, best_least, nowhere_none}
 
 pub start_known : (S : Sheet) (from p : ℕ) → Dec (StartAt S from p)
 start_known S from p = map_dec

@@ -1,13 +1,12 @@
 -- The places at a row's head to which a label is offered.
-use mathlib.Core.Path.{◌≡◌, refl, sym, ap, subst, ◌∙◌}
-use mathlib.Core.Logic.{◌⊎◌, inl, inr, ⊎_elim}
+use mathlib.Core.Path.{◌≡◌, refl, subst}
+use mathlib.Core.Logic.{◌⊎◌, inl, inr}
 use mathlib.Core.List.{List}
 use Prim.Native.Nat.{ℕ, ◌+◌, ◌*◌, ◌<◌, ◌≤◌}
 use native.Mathlib.Omega.{arith}
 use native.Mathlib.Decide.{dec_lt}
-use lib.ListN.{length}
 use Rattle.network.specs.declared.weight.Weight.{Weight}
-use Rattle.network.specs.Sheet.{Sheet, MayRide, Bit, entry}
+use Rattle.network.specs.Sheet.{Sheet, MayRide, entry}
 use Rattle.search.specs.Places.{Shift, riding, changing}
 use Rattle.search.specs.Labels.{Offered}
 use Rattle.search.specs.Steps.{ToState, ToStates, Arrives}

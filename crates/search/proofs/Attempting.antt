@@ -1,12 +1,11 @@
 -- One row tried from a place.
 use mathlib.Core.Path.{◌≡◌, refl, sym, ap, subst, subst₂, ◌∙◌}
-use mathlib.Core.Logic.{◌⊎◌, inl, inr, ⊎_elim}
-use mathlib.Core.Bool.{Bool, true, false}
+use mathlib.Core.Logic.{inl, inr}
+use mathlib.Core.Bool.{Bool}
 use mathlib.Core.List.{List}
 use Prim.Native.Nat.{ℕ, ◌+◌, ◌*◌, ◌/◌, ◌%◌, ◌<◌, ◌≤◌}
 use native.Mathlib.Omega.{arith}
 use native.Mathlib.Decide.{dec_lt}
-use lib.ListN.{length}
 use Rattle.network.specs.declared.weight.Weight.{Weight}
 use Rattle.network.specs.declared.rows.Row.{Row}
 use Rattle.network.specs.Weight.{◌⊕◌, Sum}
@@ -15,9 +14,9 @@ use Rattle.network.specs.Sheet.{Sheet}
 use Rattle.network.specs.Rows.{Columns, row, rows, cost, table}
 use Rattle.network.specs.Answers.{row_read, tail_read}
 use Rattle.network.proofs.WeightLaws.{sum_held}
-use Rattle.network.proofs.RowLaws.{read_row, tail_read_row, table_length, row_fine}
+use Rattle.network.proofs.RowLaws.{read_row, tail_read_row, row_fine}
 use Rattle.search.specs.Graph.{Laws}
-use Rattle.search.specs.Places.{place, state_of, phase_of, Shift, Homeward, Useful}
+use Rattle.search.specs.Places.{place, state_of, Homeward, Useful}
 use Rattle.search.specs.Labels.{Falls, asked, Hinted, SameLabels, Worked, Offered}
 use Rattle.search.specs.Steps.{Arrives, Light, Ready}
 use Rattle.search.proofs.Places.{phase_down, phase_level, move_to, useful_home, level_at, down_at}

@@ -10,7 +10,7 @@ use lib.Seq.{get_or-set_same, get_or-set_other}
 use Rattle.network.specs.declared.rows.Row.{Row}
 use Rattle.network.specs.Order.{Before, lower_rank, same_rank}
 use Rattle.network.specs.Network.{Network, nodes}
-use Rattle.network.specs.Rows.{Columns, row, rows, table}
+use Rattle.network.specs.Rows.{Columns, row, table}
 use Rattle.network.specs.Answers.{Decides, row_read, tail_read}
 use Rattle.network.proofs.RowLaws.{read_row, tail_read_row, row_fine, table_length}
 use Rattle.network.proofs.Scanning.{decided_true, decided_false}

@@ -2,7 +2,7 @@
 use mathlib.Core.Path.{◌≡◌, refl, sym, ap, subst, ◌∙◌}
 use mathlib.Core.Bool.{Bool}
 use mathlib.Core.List.{List}
-use Prim.Native.Nat.{ℕ, ◌+◌, ◌*◌, ◌/◌, ◌%◌, ◌<◌, ◌≤◌}
+use Prim.Native.Nat.{ℕ, ◌+◌, ◌*◌, ◌/◌, ◌%◌, ◌<◌}
 use native.Mathlib.Omega.{arith}
 use native.Mathlib.Decide.{ℕ_discrete}
 use lib.ListN.{length, get_or, set, length-set}
@@ -11,9 +11,9 @@ use Rattle.network.specs.declared.weight.Weight.{Weight}
 use Rattle.network.specs.declared.rows.Row.{Row}
 use Rattle.network.specs.Network.{Network, nodes}
 use Rattle.network.specs.Sheet.{Sheet}
-use Rattle.network.specs.Rows.{row, rows}
+use Rattle.network.specs.Rows.{rows}
 use Rattle.network.proofs.WeightLaws.{weight-≡}
-use Rattle.search.specs.Labels.{label, word, mark, row_before, place_before, hint, Falls, asked, Hinted, Worked}
+use Rattle.search.specs.Labels.{label, word, row_before, hint, Hinted, Worked}
 use Rattle.search.specs.Steps.{Light, Left}
 use Rattle.search.proofs.Relaxing.{relax_from}
 

@@ -1,16 +1,15 @@
 -- What an offered label does to the rooms.
 use mathlib.Core.Path.{◌≡◌, refl, sym, ap, subst, ◌∙◌}
 use mathlib.Core.Logic.{◌⊎◌, inl, inr, ⊎_elim}
-use mathlib.Core.Bool.{Bool, true, false}
 use mathlib.Core.List.{List}
-use Prim.Native.Nat.{ℕ, ◌+◌, ◌*◌, ◌/◌, ◌%◌, ◌<◌, ◌≤◌}
+use Prim.Native.Nat.{ℕ, ◌+◌, ◌*◌, ◌<◌}
 use native.Mathlib.Omega.{arith}
 use native.Mathlib.Decide.{ℕ_discrete}
 use lib.ListN.{length, get_or, set, length-set}
 use lib.Seq.{get_or-set_same, get_or-set_other}
 use Rattle.network.specs.declared.weight.Weight.{Weight}
 use Rattle.network.specs.Weight.{Lighter}
-use Rattle.network.proofs.WeightLaws.{◌≼◌, ≼_trans, ≡-≼, lighter-≼, not_lighter-≼, weight-≡, lighter_irrefl, lighter_trans, ≼-lighter}
+use Rattle.network.proofs.WeightLaws.{◌≼◌, ≼_trans, ≡-≼, lighter-≼, not_lighter-≼, weight-≡, lighter_irrefl}
 use Rattle.search.specs.Labels.{label, word, word_by, SamePlace, NewPlace, Offered}
 
 same_place : {wide narrow : List ℕ} {v : ℕ} → SamePlace wide narrow wide narrow v

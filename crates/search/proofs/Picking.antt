@@ -1,5 +1,5 @@
 -- The scan for a lightest waiting place, over the labels `d` and the marks `s`.
-use mathlib.Core.Path.{◌≡◌, refl, sym, ap, subst, subst₂, ◌∙◌}
+use mathlib.Core.Path.{◌≡◌, refl, sym, ap, subst, ◌∙◌}
 use mathlib.Core.Bool.{Bool, true, false}
 use Prim.Native.Nat.{ℕ, ◌+◌, ◌<◌, ◌≤◌}
 use native.Mathlib.Omega.{arith}
@@ -7,11 +7,10 @@ use borrow.Author.Count.{below_more}
 use Rattle.network.specs.declared.weight.Weight.{Weight}
 use Rattle.network.specs.Weight.{none_yet, Lighter}
 use Rattle.network.specs.Answers.{Decides}
-use Rattle.network.proofs.WeightLaws.{◌≼◌, ≼_refl, ≡-≼, ≼_trans, lighter-≼, ≼-lighter, ≼-not_lighter, not_lighter-≼}
+use Rattle.network.proofs.WeightLaws.{◌≼◌, ≡-≼, ≼_trans, lighter-≼, ≼-lighter, not_lighter-≼}
 use Rattle.network.proofs.Scanning.{decided_true, decided_false}
 use Rattle.search.specs.declared.pick.Choice.{Choice}
 use Rattle.search.specs.Steps.{Looked, passed_by, heavier, taken, Picked, nobody, somebody}
-use Rattle.search.specs.Graph.{Graph, Lightest, Nobody}
 
 data Holds (places : ℕ) (d : ℕ → Weight) (s : ℕ → ℕ) (place : ℕ) (best : Weight) : Type 0 where
   nothing : place ≡ places → best ≡ none_yet → Holds places d s place best

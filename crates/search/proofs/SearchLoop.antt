@@ -1,19 +1,18 @@
 -- The loop of a search, in the rooms.
-use mathlib.Core.Path.{◌≡◌, refl, sym, ap, subst, ◌∙◌}
+use mathlib.Core.Path.{◌≡◌, refl, sym, ◌∙◌}
 use mathlib.Core.Bool.{Bool, true, false, true≢false}
 use mathlib.Core.List.{List}
-use Prim.Native.Nat.{ℕ, ◌+◌, ◌*◌, ◌<◌, ◌≤◌}
+use Prim.Native.Nat.{ℕ, ◌+◌, ◌*◌, ◌<◌}
 use native.Mathlib.Omega.{arith}
 use lib.ListN.{length}
-use Rattle.network.specs.declared.weight.Weight.{Weight}
 use Rattle.network.specs.declared.rows.Row.{Row}
 use Rattle.network.specs.Network.{Network, nodes}
 use Rattle.network.specs.Sheet.{Sheet}
-use Rattle.network.specs.Rows.{Columns, rows, table}
+use Rattle.network.specs.Rows.{Columns, table}
 use Rattle.network.specs.Weight.{none_yet, Lighter}
 use Rattle.network.proofs.WeightLaws.{≼-not_lighter}
 use Rattle.network.proofs.Counting.{waiting, waiting_drop}
-use Rattle.search.specs.Graph.{Graph, Greedy, Unmet, Lightest, Nobody, Whole}
+use Rattle.search.specs.Graph.{Greedy, Unmet, Lightest}
 use Rattle.search.specs.Places.{TargetAt}
 use Rattle.search.specs.Labels.{label, mark, row_before, place_before, Falls, asked, Hinted}
 use Rattle.search.specs.Steps.{

@@ -2,22 +2,19 @@
 use mathlib.Core.Path.{◌≡◌, refl, sym, ap, subst, ◌∙◌}
 use mathlib.Core.List.{List}
 use mathlib.Core.Bool.{Bool}
-use Prim.Native.Nat.{ℕ, ◌+◌, ◌*◌, ◌/◌, ◌%◌, ◌^◌, ◌<◌, ◌≤◌}
+use Prim.Native.Nat.{ℕ, ◌+◌, ◌*◌, ◌<◌, ◌≤◌}
 use native.Mathlib.Omega.{arith}
 use native.Mathlib.Decide.{dec_lt, ℕ_discrete}
-use lib.ListN.{length, get_or, set, replicate, length-set, length-replicate, get_or-replicate}
+use lib.ListN.{length, get_or, replicate, length-set, length-replicate, get_or-replicate}
 use lib.Seq.{get_or-set_same, get_or-set_other}
-use Rattle.network.specs.declared.weight.Weight.{Weight}
-use Rattle.network.specs.declared.rows.Row.{Row}
 use Rattle.network.specs.declared.sheet.State.{State}
 use Rattle.network.specs.Weight.{zero_weight, none_yet}
 use Rattle.network.specs.Network.{Network, nodes}
-use Rattle.network.specs.Sheet.{Sheet, sheet_of, no_state, Bit}
+use Rattle.network.specs.Sheet.{sheet_of, no_state, Bit}
 use Rattle.network.specs.Rows.{Columns, table}
 use Rattle.network.proofs.WeightLaws.{weight-≡}
-use Rattle.search.specs.Graph.{Begun}
-use Rattle.search.specs.Places.{StartAt, node_of, state_of, phase_of}
-use Rattle.search.specs.Labels.{label, word, mark, hint, Falls, asked, Hinted}
+use Rattle.search.specs.Places.{StartAt, state_of}
+use Rattle.search.specs.Labels.{label, word}
 use Rattle.search.specs.Steps.{Started, starts, starts_not, Starting, Begins, Ready}
 use Rattle.search.proofs.Answers.{start_known}
 

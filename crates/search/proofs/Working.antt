@@ -5,17 +5,15 @@ use mathlib.Core.Bool.{Bool}
 use mathlib.Core.List.{List}
 use Prim.Native.Nat.{ℕ, ◌+◌, ◌*◌, ◌/◌, ◌%◌, ◌<◌, ◌≤◌}
 use native.Mathlib.Omega.{arith}
-use native.Mathlib.Decide.{dec_lt, ℕ_discrete}
-use lib.ListN.{length, get_or}
 use Rattle.network.specs.declared.weight.Weight.{Weight}
 use Rattle.network.specs.declared.rows.Row.{Row}
-use Rattle.network.specs.Weight.{◌⊕◌, Sum, Lighter}
+use Rattle.network.specs.Weight.{◌⊕◌}
 use Rattle.network.specs.Network.{Network, nodes}
 use Rattle.network.specs.Sheet.{Sheet}
-use Rattle.network.specs.Rows.{row, rows, cost}
-use Rattle.network.proofs.WeightLaws.{◌≼◌, ≼-not_lighter, ≡-≼, ≼_trans, sum_held, weight-≡}
-use Rattle.search.specs.Graph.{Graph, Laws, Same, Better, Relaxed}
-use Rattle.search.specs.Places.{place, node_of, state_of, phase_of, Shift, Move, Homeward, Useful, Phase}
+use Rattle.network.specs.Rows.{row, cost}
+use Rattle.network.proofs.WeightLaws.{◌≼◌, ≼-not_lighter, ≡-≼, ≼_trans, weight-≡}
+use Rattle.search.specs.Graph.{Laws, Same, Better}
+use Rattle.search.specs.Places.{Useful}
 use Rattle.search.specs.Labels.{
   label,
   word,
@@ -33,8 +31,7 @@ use Rattle.search.specs.Labels.{
   NewPlace,
   Offered,
 }
-use Rattle.search.specs.Steps.{Arrives}
-use Rattle.search.proofs.Relaxing.{relax_start, relax_only, relax_from, relax_join}
+use Rattle.search.proofs.Relaxing.{relax_only, relax_join}
 
 -- what a place's new word tells
 word_row : (old r low : ℕ) → r < 4096 → low < 16 → word_by old r low / 32 % 4096 ≡ r

@@ -1,5 +1,5 @@
 -- What the inner functions of the witness search promise each other.
-use Rattle.std.specs.Prelude.{◌≡◌, Bool, true, false, List, ℕ, ◌+◌, ◌*◌, ◌%◌, ◌<◌, ◌≤◌, length, set}
+use Rattle.std.specs.Prelude.{◌≡◌, Bool, true, false, List, ℕ, ◌+◌, ◌*◌, ◌%◌, ◌<◌, ◌≤◌, set}
 use Rattle.network.specs.declared.weight.Weight.{Weight}
 use Rattle.network.specs.Weight.{zero_weight, none_yet, ◌⊕◌, Held, Lighter}
 use Rattle.network.specs.Rows.{cost}

@@ -1,6 +1,5 @@
 -- `exports::journeys_contracted` refuses a sheet of a wrong length, else searches. Assumes nothing.
-use Rattle.exports.proofs.SheetLaws.{contracted_refused, contracted_asked}
-use borrow.Author.Rules.{rules}
+use Rattle.exports.proofs.SheetLaws.{contracted_asked}
 use Rattle.exports.proofs.journeys_contracted.Goals as goal
 
 pub returns : goal.returns

@@ -1,6 +1,5 @@
 -- `exports::journeys_plain` refuses a sheet of a wrong length, else searches. Assumes nothing.
-use Rattle.exports.proofs.SheetLaws.{plain_refused, plain_asked}
-use borrow.Author.Rules.{rules}
+use Rattle.exports.proofs.SheetLaws.{plain_asked}
 use Rattle.exports.proofs.journeys_plain.Goals as goal
 
 pub returns : goal.returns

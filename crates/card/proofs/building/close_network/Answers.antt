@@ -1,7 +1,6 @@
 -- `card::building::close_network` tests and prepares the network. Assumes nothing.
 use mathlib.Core.Path.{refl}
 use Rattle.card.specs.Reading.{accepted, refused}
-use borrow.Author.Rules.{rules}
 use Rattle.card.proofs.building.close_network.Goals as goal
 
 pub returns-then-answer-ne-ANSWERED : goal.returns-then-answer-ne-ANSWERED

@@ -1,7 +1,6 @@
 -- `card::building::count_record` counts the node or the edge at hand. Assumes nothing.
 use borrow.Author.Tests.{eq-eqb, ne_eqb, lt-ltb, le-ltb}
 use Rattle.card.specs.Reading.{counted}
-use borrow.Author.Rules.{rules}
 use Rattle.card.proofs.building.count_record.Goals as goal
 
 pub returns-then-entered-reader : goal.returns-then-entered-reader

@@ -1,7 +1,6 @@
 -- `card::building::store` stores the node or the edge at hand. Assumes nothing.
 use Rattle.network.specs.Network.{network}
 use Rattle.card.proofs.ReadingSteps.{store_node, store_edge}
-use borrow.Author.Rules.{rules}
 use Rattle.card.proofs.building.store.Goals as goal
 
 pub returns-then-bytes-eq-NODE : goal.returns-then-bytes-eq-NODE

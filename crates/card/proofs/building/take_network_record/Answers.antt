@@ -1,6 +1,6 @@
 -- `card::building::take_network_record` takes a node or an edge. Assumes nothing.
-use Rattle.network.proofs.Scanning.{decided_true, decided_false}
-use Rattle.card.proofs.ReadingSteps.{network_closes, network_grows}
+use Rattle.network.proofs.Scanning.{decided_true}
+use Rattle.card.proofs.ReadingSteps.{network_closes}
 use Rattle.card.proofs.building.take_network_record.Goals as goal
 
 pub returns-then-network_in : goal.returns-then-network_in

@@ -1,7 +1,5 @@
 -- `card::listing::take_simply` takes a record that touches no column. Assumes nothing.
-use mathlib.Core.Path.{refl}
-use Rattle.card.specs.Reading.{a_head, a_sheet, a_state, the_end, unknown}
-use borrow.Author.Rules.{rules}
+use Rattle.card.specs.Reading.{a_state}
 use Rattle.card.proofs.listing.take_simply.Goals as goal
 
 pub returns-then-kind-eq-STATE : goal.returns-then-kind-eq-STATE

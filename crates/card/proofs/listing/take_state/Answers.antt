@@ -1,6 +1,5 @@
 -- `card::listing::take_state` takes a state, and tests the sheet at the last. Assumes nothing.
-use Rattle.card.proofs.ReadingSteps.{state_more, state_refused, state_accepted}
-use borrow.Author.Rules.{rules}
+use Rattle.card.proofs.ReadingSteps.{state_refused, state_accepted}
 use Rattle.card.proofs.listing.take_state.Goals as goal
 
 pub returns-then-checked-ne-ANSWERED : goal.returns-then-checked-ne-ANSWERED

@@ -1,9 +1,8 @@
 -- `card::stream::feed` takes one byte. Assumes nothing.
 use mathlib.Core.Path.{refl}
 use Rattle.network.proofs.Scanning.{decided_true, decided_false}
-use Rattle.card.specs.Reading.{Fed, misplaced}
-use Rattle.card.proofs.ReadingSteps.{byte_held, byte_taken}
-use borrow.Author.Rules.{rules}
+use Rattle.card.specs.Reading.{misplaced}
+use Rattle.card.proofs.ReadingSteps.{byte_taken}
 use Rattle.card.proofs.stream.feed.Goals as goal
 
 pub returns-then-misplaced : goal.returns-then-misplaced

@@ -2,9 +2,8 @@
 use mathlib.Core.Path.{refl}
 use Rattle.network.proofs.Scanning.{decided_true, decided_false}
 use Rattle.network.specs.Network.{network}
-use Rattle.card.specs.Reading.{of_network, question, other}
+use Rattle.card.specs.Reading.{of_network, other}
 use Rattle.card.proofs.ReadingSteps.{simply_roomed}
-use borrow.Author.Rules.{rules}
 use Rattle.card.proofs.stream.take_record.Goals as goal
 
 pub returns-then-of_network : goal.returns-then-of_network

@@ -1,8 +1,5 @@
 -- `legs::contracted::open_back` opens the rows of the journey room in place. Assumes nothing.
-use native.Mathlib.Omega.{arith}
-use Rattle.network.specs.Network.{network}
-use Rattle.network.specs.Rows.{columns, table}
-use Rattle.legs.proofs.RowsInPlace.{LeftToOpen, open_start, open_fits, open_turn, open_done}
+use Rattle.legs.proofs.RowsInPlace.{open_fits, open_turn}
 use Rattle.legs.proofs.contracted.open_back.Goals as goal
 
 pub open_before-end-requires : goal.open_before-end-requires

@@ -1,8 +1,6 @@
 -- `legs::contracted::open_before` opens one row of the journey room in place. Assumes nothing.
 use mathlib.Core.Path.{refl}
-use native.Mathlib.Omega.{arith}
 use Rattle.legs.proofs.RowsInPlace.{count_inside, row_fits_behind, legs_before}
-use borrow.Author.Rules.{rules}
 use Rattle.legs.proofs.contracted.open_before.Goals as goal
 
 pub overflow_sub-begin : goal.overflow_sub-begin

@@ -1,6 +1,5 @@
 -- `legs::contracted::search_contracted` answers the question. Assumes nothing.
 use Rattle.legs.proofs.RowsInPlace.{search_refused, search_stands, search_opened}
-use borrow.Author.Rules.{rules}
 use Rattle.legs.proofs.contracted.search_contracted.Goals as goal
 
 pub returns-then-answer-ne-ANSWERED : goal.returns-then-answer-ne-ANSWERED

@@ -1,9 +1,6 @@
 -- `legs::opening::open_into` opens a row that may be opened, and writes nothing for another. Assumes nothing.
-use mathlib.Core.Path.{refl}
-use Rattle.network.proofs.Scanning.{decided_true, decided_false}
-use Rattle.legs.specs.Opened.{refuses}
+use Rattle.network.proofs.Scanning.{decided_true}
 use Rattle.legs.proofs.Openings.{openable_fits, opened_into}
-use borrow.Author.Rules.{rules}
 use Rattle.legs.proofs.opening.open_into.Goals as goal
 
 pub open_row-requires : goal.open_row-requires

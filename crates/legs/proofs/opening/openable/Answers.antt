@@ -1,8 +1,6 @@
 -- `legs::opening::openable` tells whether a row may be opened into a room of so many numbers. Assumes nothing.
-use native.Mathlib.Omega.{arith}
-use Rattle.legs.proofs.Accepting.{network_kept, network_broken, rows_kept, rows_broken}
+use Rattle.legs.proofs.Accepting.{network_kept, rows_kept}
 use Rattle.legs.proofs.Openings.{row_absent, room_short, may_open}
-use borrow.Author.Rules.{rules}
 use Rattle.legs.proofs.opening.openable.Goals as goal
 
 pub returns-then-tails-shortcut_tails : goal.returns-then-tails-shortcut_tails

@@ -1,9 +1,5 @@
 -- `lines::text::digit_count` counts a number's digits: each turn takes one off. Assumes nothing.
-use mathlib.Core.Path.{◌≡◌}
-use Prim.Native.Nat.{◌+◌, ◌≤◌}
 use native.Mathlib.Omega.{arith}
-use lib.ListN.{length}
-use Rattle.lines.specs.Text.{decimal}
 use Rattle.lines.proofs.Digits.{length_more, digits_counted}
 use Rattle.lines.proofs.text.digit_count.Goals as goal
 

@@ -2,8 +2,7 @@
 use Prim.Native.Nat.{ℕ, ◌<◌}
 use native.Mathlib.Omega.{arith}
 use lib.ListN.{length, get_or}
-use Rattle.lines.proofs.Lines.{length_journey, journey_most}
-use borrow.Author.Rules.{rules}
+use Rattle.lines.proofs.Lines.{journey_most}
 use Rattle.lines.proofs.text.journey_fits.Goals as goal
 
 pub returns-then-legs-room : goal.returns-then-legs-room

@@ -1,8 +1,7 @@
 -- `lines::text::legs_length` adds up what the legs take. Assumes nothing.
 use Prim.Native.Nat.{◌-◌}
-use native.Mathlib.Omega.{arith}
 use lib.ListN.{length}
-use Rattle.lines.proofs.Storing.{Summing, sum_start, sum_more, sum_done}
+use Rattle.lines.proofs.Storing.{Summing}
 use Rattle.lines.proofs.text.legs_length.Given as goal
 
 abbrev pub invariant-loop-i : goal.invariant-loop-i

@@ -1,8 +1,5 @@
 -- `lines::text::put_journey` writes a journey's line part by part. Assumes nothing.
-use native.Mathlib.Omega.{arith}
-use Rattle.lines.proofs.Storing.{put_length}
-use Rattle.lines.proofs.Lines.{length_journey, journey_put}
-use borrow.Author.Rules.{rules}
+use Rattle.lines.proofs.Lines.{journey_put}
 use Rattle.lines.proofs.text.put_journey.Goals as goal
 
 pub returns : goal.returns

@@ -1,8 +1,7 @@
 -- `lines::text::put_legs` writes leg by leg, each with the space before it. Assumes nothing.
 use Prim.Native.Nat.{◌-◌}
-use native.Mathlib.Omega.{arith}
 use lib.ListN.{length}
-use Rattle.lines.proofs.Storing.{TellingLegs, put_length, legs_start, leg_fits, legs_more, legs_done}
+use Rattle.lines.proofs.Storing.{TellingLegs}
 use Rattle.lines.proofs.text.put_legs.Given as goal
 
 abbrev pub invariant-loop-i : goal.invariant-loop-i

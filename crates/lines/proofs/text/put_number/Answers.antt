@@ -1,8 +1,7 @@
 -- `lines::text::put_number` writes a number's digits, the last one first. Assumes nothing.
-use mathlib.Core.Path.{◌∙◌}
 use native.Mathlib.Omega.{arith}
 use Rattle.lines.proofs.Digits.{some_digit}
-use Rattle.lines.proofs.Storing.{Spelling, spell_start, spell_length, spell_left, spell_more, spell_done}
+use Rattle.lines.proofs.Storing.{spell_start, spell_left, spell_more, spell_done}
 use Rattle.lines.proofs.text.put_number.Goals as goal
 
 pub overflow_sub-i : goal.overflow_sub-i

@@ -1,8 +1,5 @@
 -- `lines::text::put_refusal` writes a refusal's line part by part. Assumes nothing.
-use native.Mathlib.Omega.{arith}
-use Rattle.lines.proofs.Storing.{put_length}
-use Rattle.lines.proofs.Lines.{length_refusal, refusal_put}
-use borrow.Author.Rules.{rules}
+use Rattle.lines.proofs.Lines.{refusal_put}
 use Rattle.lines.proofs.text.put_refusal.Goals as goal
 
 pub returns : goal.returns

@@ -1,10 +1,6 @@
 -- `lines::text::write_journey` writes a journey's line where it fits. Assumes nothing.
-use mathlib.Core.Path.{refl}
-use native.Mathlib.Omega.{arith}
-use Rattle.network.proofs.Scanning.{decided_true, decided_false}
-use Rattle.lines.specs.Text.{short}
+use Rattle.network.proofs.Scanning.{decided_true}
 use Rattle.lines.proofs.Storing.{put_written}
-use borrow.Author.Rules.{rules}
 use Rattle.lines.proofs.text.write_journey.Goals as goal
 
 pub returns-then-journey_fits : goal.returns-then-journey_fits

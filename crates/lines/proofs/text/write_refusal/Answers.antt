@@ -1,10 +1,7 @@
 -- `lines::text::write_refusal` writes a refusal's line where it fits. Assumes nothing.
-use mathlib.Core.Path.{refl}
 use native.Mathlib.Omega.{arith}
-use Rattle.lines.specs.Text.{short}
 use Rattle.lines.proofs.Storing.{put_written}
 use Rattle.lines.proofs.Lines.{length_refusal}
-use borrow.Author.Rules.{rules}
 use Rattle.lines.proofs.text.write_refusal.Goals as goal
 
 pub returns : goal.returns

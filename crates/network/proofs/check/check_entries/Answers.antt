@@ -1,9 +1,8 @@
 -- `network::check::check_entries` answers the first broken rule of nodes, edges and transfer nodes. Assumes nothing.
 use mathlib.Core.Path.{refl}
 use mathlib.Core.Logic.{inl, inr}
-use Rattle.network.specs.Answers.{accepts, refuses}
+use Rattle.network.specs.Answers.{refuses}
 use Rattle.network.proofs.Scanning.{scanned_lowest, scanned_kept}
-use borrow.Author.Rules.{rules}
 use Rattle.network.proofs.check.check_entries.Goals as goal
 
 pub returns-then-node-node_modes : goal.returns-then-node-node_modes

@@ -1,7 +1,6 @@
 -- `network::check::check_network` answers the first broken rule of a network. Assumes nothing.
 use Rattle.network.proofs.Checking.{checked_behind, sizes_refused}
 use Rattle.network.proofs.Scanning.{decided_true, decided_false}
-use borrow.Author.Rules.{rules}
 use Rattle.network.proofs.check.check_network.Goals as goal
 
 pub returns-then-network_sized : goal.returns-then-network_sized

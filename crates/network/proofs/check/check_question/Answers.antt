@@ -2,8 +2,7 @@
 use mathlib.Core.Path.{refl}
 use mathlib.Core.Logic.{inl, inr}
 use native.Mathlib.Omega.{arith}
-use Rattle.network.specs.Answers.{accepts, refuses}
-use borrow.Author.Rules.{rules}
+use Rattle.network.specs.Answers.{refuses}
 use Rattle.network.proofs.check.check_question.Goals as goal
 
 pub returns-then-nodes-from : goal.returns-then-nodes-from

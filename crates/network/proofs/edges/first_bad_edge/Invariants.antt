@@ -1,9 +1,8 @@
 -- `network::edges::first_bad_edge` answers the lowest edge that breaks its rule. Assumes nothing.
 use Prim.Native.Nat.{◌-◌}
-use native.Mathlib.Omega.{arith}
 use lib.ListN.{length}
 use Rattle.network.specs.Network.{network, EdgeFine}
-use Rattle.network.proofs.Scanning.{Scanning, scan_start, scan_more, scan_stop, scan_done}
+use Rattle.network.proofs.Scanning.{Scanning}
 use Rattle.network.proofs.edges.first_bad_edge.Given as goal
 
 abbrev pub invariant-loop-e : goal.invariant-loop-e

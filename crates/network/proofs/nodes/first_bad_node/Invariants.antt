@@ -1,9 +1,8 @@
 -- `network::nodes::first_bad_node` answers the lowest node that breaks its rule. Assumes nothing.
 use Prim.Native.Nat.{◌-◌}
-use native.Mathlib.Omega.{arith}
 use lib.ListN.{length}
 use Rattle.network.specs.Network.{network, NodeFine}
-use Rattle.network.proofs.Scanning.{Scanning, scan_start, scan_more, scan_stop, scan_done}
+use Rattle.network.proofs.Scanning.{Scanning}
 use Rattle.network.proofs.nodes.first_bad_node.Given as goal
 
 abbrev pub invariant-loop-v : goal.invariant-loop-v

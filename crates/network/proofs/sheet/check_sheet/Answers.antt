@@ -2,9 +2,8 @@
 use mathlib.Core.Path.{refl}
 use mathlib.Core.Logic.{inl, inr}
 use native.Mathlib.Omega.{arith}
-use Rattle.network.specs.Answers.{accepts, refuses}
-use Rattle.network.proofs.Scanning.{scanned_lowest, scanned_kept}
-use borrow.Author.Rules.{rules}
+use Rattle.network.specs.Answers.{refuses}
+use Rattle.network.proofs.Scanning.{scanned_lowest}
 use Rattle.network.proofs.sheet.check_sheet.Goals as goal
 
 pub returns-then-states-eq0 : goal.returns-then-states-eq0

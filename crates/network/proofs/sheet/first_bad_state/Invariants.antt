@@ -1,8 +1,7 @@
 -- `network::sheet::first_bad_state` answers the lowest state that breaks its rule. Assumes nothing.
 use Prim.Native.Nat.{◌-◌}
-use native.Mathlib.Omega.{arith}
 use Rattle.network.specs.Sheet.{sheet_of, StateFine}
-use Rattle.network.proofs.Scanning.{Scanning, scan_start, scan_more, scan_stop, scan_done}
+use Rattle.network.proofs.Scanning.{Scanning}
 use Rattle.network.proofs.sheet.first_bad_state.Given as goal
 
 abbrev pub invariant-loop-q : goal.invariant-loop-q

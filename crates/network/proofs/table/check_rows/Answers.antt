@@ -1,12 +1,10 @@
 -- `network::table::check_rows` answers the first broken rule of the shortcut rows. Assumes nothing.
 use mathlib.Core.Path.{refl}
 use mathlib.Core.Logic.{inl}
-use native.Mathlib.Omega.{arith}
 use Rattle.network.specs.Answers.{accepts, refuses}
 use Rattle.network.proofs.Checking.{checked_behind, sizes_refused}
 use Rattle.network.proofs.RowLaws.{table_length}
 use Rattle.network.proofs.Scanning.{decided_true, decided_false, scanned_lowest, scanned_kept}
-use borrow.Author.Rules.{rules}
 use Rattle.network.proofs.table.check_rows.Goals as goal
 
 pub returns-then-row-tails : goal.returns-then-row-tails

@@ -1,11 +1,6 @@
 -- `network::table::first_bad_row` answers the lowest shortcut row that is not sound. Assumes nothing.
-use Prim.Native.Nat.{◌-◌}
-use native.Mathlib.Omega.{arith}
-use lib.ListN.{length}
-use Rattle.network.specs.Network.{network}
-use Rattle.network.specs.Rows.{columns, table, SoundRow}
 use Rattle.network.proofs.RowLaws.{table_length}
-use Rattle.network.proofs.Scanning.{Scanning, scan_start, scan_more, scan_stop, scan_done}
+use Rattle.network.proofs.Scanning.{scan_more, scan_stop, scan_done}
 use Rattle.network.proofs.table.first_bad_row.Goals as goal
 
 pub loop-r-preserved : goal.loop-r-preserved

@@ -1,7 +1,5 @@
 -- `network::table::row_sound` tells whether a shortcut row is sound. Assumes nothing.
 use Rattle.network.proofs.RowLaws.{first_not_lower, second_not_lower, sound_by_joins}
-use native.Mathlib.Omega.{arith}
-use borrow.Author.Rules.{rules}
 use Rattle.network.proofs.table.row_sound.Goals as goal
 
 pub returns-then-r-first : goal.returns-then-r-first

@@ -1,9 +1,8 @@
 -- `network::transfers::first_bad_transfer` answers the lowest transfer node that is not core. Assumes nothing.
 use Prim.Native.Nat.{◌-◌}
-use native.Mathlib.Omega.{arith}
 use lib.ListN.{length}
 use Rattle.network.specs.Network.{network}
-use Rattle.network.proofs.TransferScan.{Passing, pass_start, pass_more, pass_done}
+use Rattle.network.proofs.TransferScan.{Passing}
 use Rattle.network.proofs.transfers.first_bad_transfer.Given as goal
 
 abbrev pub invariant-loop-e : goal.invariant-loop-e

@@ -1,8 +1,5 @@
 -- `preparation::lent::write_from` appends the marked shortcuts from a node. Assumes nothing.
-use Prim.Native.Nat.{◌-◌}
-use native.Mathlib.Omega.{arith}
-use Rattle.network.specs.Rows.{columns}
-use Rattle.preparation.proofs.LentRows.{size_trans, size_lasts, appended_size, Writing, writing_start, writing_size, writing_more, writing_over, writing_done}
+use Rattle.preparation.proofs.LentRows.{writing_start, writing_more, writing_over}
 use Rattle.preparation.proofs.lent.write_from.Goals as goal
 
 pub loop-w-init : goal.loop-w-init

@@ -1,7 +1,5 @@
 -- `preparation::lent::write_marked` appends a shortcut if it is marked. Assumes nothing.
-use native.Mathlib.Omega.{arith}
-use Rattle.preparation.proofs.LentRows.{marked_not, marked_full, marked_put}
-use borrow.Author.Rules.{rules}
+use Rattle.preparation.proofs.LentRows.{marked_put}
 use Rattle.preparation.proofs.lent.write_marked.Goals as goal
 
 pub returns : goal.returns

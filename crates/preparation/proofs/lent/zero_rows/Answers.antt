@@ -1,9 +1,5 @@
 -- `preparation::lent::zero_rows` zeroes the rows behind the first `at`. Assumes nothing.
-use Prim.Native.Nat.{◌-◌}
-use native.Mathlib.Omega.{arith}
-use lib.ListN.{length}
-use Rattle.network.specs.Rows.{columns}
-use Rattle.preparation.proofs.LentRows.{size_lasts, Zeroing, zeroing_start, zeroing_more, zeroing_done}
+use Rattle.preparation.proofs.LentRows.{zeroing_more, zeroing_done}
 use Rattle.preparation.proofs.lent.zero_rows.Goals as goal
 
 pub loop-i-preserved : goal.loop-i-preserved

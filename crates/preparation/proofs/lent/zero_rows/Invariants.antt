@@ -1,9 +1,8 @@
 -- `preparation::lent::zero_rows` zeroes the rows behind the first `at`. Assumes nothing.
 use Prim.Native.Nat.{◌-◌}
-use native.Mathlib.Omega.{arith}
 use lib.ListN.{length}
 use Rattle.network.specs.Rows.{columns}
-use Rattle.preparation.proofs.LentRows.{size_lasts, Zeroing, zeroing_start, zeroing_more, zeroing_done}
+use Rattle.preparation.proofs.LentRows.{Zeroing}
 use Rattle.preparation.proofs.lent.zero_rows.Given as goal
 
 abbrev pub invariant-loop-i : goal.invariant-loop-i

@@ -1,7 +1,6 @@
 -- `preparation::neighbours::clear_slots` notes that there is no row. Assumes nothing.
 use Prim.Native.Nat.{◌*◌, ◌-◌}
-use native.Mathlib.Omega.{arith}
-use Rattle.preparation.proofs.LeastNoted.{Clearing, clearing_start, clearing_more, clearing_done}
+use Rattle.preparation.proofs.LeastNoted.{Clearing}
 use Rattle.preparation.proofs.neighbours.clear_slots.Given as goal
 
 abbrev pub invariant-loop-i : goal.invariant-loop-i

@@ -1,11 +1,9 @@
 -- `preparation::neighbours::find_neighbours` notes the least rows into and out of v. Assumes nothing.
-use mathlib.Core.Path.{◌∙◌}
 use Prim.Native.Nat.{◌-◌}
-use native.Mathlib.Omega.{arith}
 use lib.ListN.{length}
 use Rattle.network.specs.Network.{network}
 use Rattle.network.specs.Rows.{columns}
-use Rattle.preparation.proofs.LeastNoted.{Noting, noting_start, noting_more, noting_done, few_read, turn_sized}
+use Rattle.preparation.proofs.LeastNoted.{Noting}
 use Rattle.preparation.proofs.neighbours.find_neighbours.Given as goal
 
 abbrev pub invariant-loop-r : goal.invariant-loop-r

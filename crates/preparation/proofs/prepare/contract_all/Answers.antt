@@ -1,21 +1,6 @@
 -- `preparation::prepare::contract_all` goes through all turns. Rests on `Turning`.
-use Prim.Native.Nat.{◌-◌}
 use native.Mathlib.Omega.{arith}
-use lib.ListN.{length}
-use Rattle.network.specs.Network.{network}
-use Rattle.network.specs.Rows.{columns}
-use Rattle.preparation.proofs.LentRows.{size_lasts, size_trans}
-use Rattle.preparation.proofs.Turning.{
-  turned_size,
-  same_rooms_on,
-  Contracting,
-  contracting_start,
-  turns_over,
-  contracting_over,
-  turn_comes,
-  contracting_more,
-  contracting_exceeds,
-}
+use Rattle.preparation.proofs.Turning.{contracting_start, contracting_over, turn_comes, contracting_more, contracting_exceeds}
 use Rattle.preparation.proofs.prepare.contract_all.Goals as goal
 
 pub loop-turns-init : goal.loop-turns-init
@@ -29,7 +14,7 @@ contract-at-requires-clause-in_turn c = turn_comes _ _ _ _ _ _ _ _ _ _ _ _ c.req
 
 pub returns-then-limit-at-clause-all_turned : goal.returns-then-limit-at-clause-all_turned
 returns-then-limit-at-clause-all_turned c = contracting_exceeds _ _ _ _ _ _ _ _ _ _ _ _ c.requires.sound.0 c.loop-turns.invariant _ c.next_turn-v.ensures c.if-node_modes-v.false _ c.contract-at.ensures.turned c.if-limit-at.true
-      (omega (arith, c.loop-turns.invariant.within, c.requires.even.2, c.loop-turns.invariant.same_size.size))
+    (omega (arith, c.loop-turns.invariant.within, c.requires.even.2, c.loop-turns.invariant.same_size.size))
 
 pub loop-turns-preserved : goal.loop-turns-preserved
 loop-turns-preserved c = contracting_more _ _ _ _ _ _ _ _ _ _ _ _ c.requires.sound.0 c.loop-turns.invariant _ c.next_turn-v.ensures c.if-node_modes-v.false _ c.contract-at.ensures.turned c.if-limit-at.false c.contract-at.ensures.same_rooms

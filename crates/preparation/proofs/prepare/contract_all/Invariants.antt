@@ -1,21 +1,9 @@
 -- `preparation::prepare::contract_all` goes through all turns. Rests on `Turning`.
 use Prim.Native.Nat.{◌-◌}
-use native.Mathlib.Omega.{arith}
 use lib.ListN.{length}
 use Rattle.network.specs.Network.{network}
 use Rattle.network.specs.Rows.{columns}
-use Rattle.preparation.proofs.LentRows.{size_lasts, size_trans}
-use Rattle.preparation.proofs.Turning.{
-  turned_size,
-  same_rooms_on,
-  Contracting,
-  contracting_start,
-  turns_over,
-  contracting_over,
-  turn_comes,
-  contracting_more,
-  contracting_exceeds,
-}
+use Rattle.preparation.proofs.Turning.{Contracting}
 use Rattle.preparation.proofs.prepare.contract_all.Given as goal
 
 abbrev pub invariant-loop-turns : goal.invariant-loop-turns

@@ -1,21 +1,9 @@
 -- `preparation::prepare::contract_each` goes through the nodes from which a row leads to v. Rests on `Turning`.
 use Prim.Native.Nat.{◌-◌}
-use native.Mathlib.Omega.{arith}
 use lib.ListN.{length}
 use Rattle.network.specs.Network.{network}
 use Rattle.network.specs.Rows.{columns}
-use Rattle.preparation.proofs.Turning.{
-  Turning,
-  turning_start,
-  turn_on,
-  known_on,
-  turning_more,
-  turning_over,
-  turning_done,
-  rooms_more,
-  turned_size,
-}
-use Rattle.preparation.proofs.LentRows.{appended_size, size_lasts}
+use Rattle.preparation.proofs.Turning.{Turning}
 use Rattle.preparation.proofs.prepare.contract_each.Given as goal
 
 abbrev pub invariant-loop-u : goal.invariant-loop-u

@@ -1,9 +1,6 @@
 -- `preparation::prepare::contract_from` adds the shortcuts from one node. Rests on `Turning`.
-use mathlib.Core.Path.{◌∙◌}
-use native.Mathlib.Omega.{arith}
-use borrow.Author.Rules.{rules}
 use Rattle.network.specs.Rows.{columns}
-use Rattle.preparation.proofs.Turning.{skip_from, tested_from, turn_part, known_part, tested_front}
+use Rattle.preparation.proofs.Turning.{skip_from, tested_from, tested_front}
 use Rattle.preparation.proofs.prepare.contract_from.Goals as goal
 
 pub returns-then-at32-eq-NO_ROW : goal.returns-then-at32-eq-NO_ROW

@@ -1,10 +1,7 @@
 -- `preparation::prepare::prepare` writes the shortcuts called for. Rests on `Preparation`.
 use mathlib.Core.Path.{refl}
-use native.Mathlib.Omega.{arith}
-use borrow.Author.Rules.{rules}
-use Rattle.preparation.proofs.LentRows.{size_lasts}
-use Rattle.preparation.proofs.PrepareRefusals.{prepare_passed, prepare_sound, prepare_even, prepare_roomy}
-use Rattle.preparation.proofs.Preparation.{all_size, zero_size, clear_sizes, prepare_refused, prepare_exceeds, prepare_made}
+use Rattle.preparation.proofs.PrepareRefusals.{prepare_passed}
+use Rattle.preparation.proofs.Preparation.{prepare_refused, prepare_exceeds, prepare_made}
 use Rattle.preparation.proofs.prepare.prepare.Goals as goal
 
 pub returns-then-refused-ne-ANSWERED : goal.returns-then-refused-ne-ANSWERED

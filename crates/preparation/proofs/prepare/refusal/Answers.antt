@@ -1,8 +1,6 @@
 -- `preparation::prepare::refusal` finds the first rule that is broken. Assumes nothing.
 use native.Mathlib.Omega.{arith}
-use borrow.Author.Rules.{rules}
 use Rattle.network.proofs.Scanning.{decided_true, decided_false}
-use Rattle.search.proofs.RefusalLaws.{sizes_kept}
 use Rattle.preparation.proofs.PrepareRefusals.{prepare_uneven, prepare_sizes, prepare_rooms, prepare_entries}
 use Rattle.preparation.proofs.prepare.refusal.Goals as goal
 

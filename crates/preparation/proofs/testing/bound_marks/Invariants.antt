@@ -1,7 +1,6 @@
 -- `preparation::testing::bound_marks` bounds the sums that are marked. Assumes nothing.
 use Prim.Native.Nat.{◌-◌}
-use native.Mathlib.Omega.{arith}
-use Rattle.preparation.proofs.SiftingLaws.{Bounding, bounding_start, bounding_more, bounding_done}
+use Rattle.preparation.proofs.SiftingLaws.{Bounding}
 use Rattle.preparation.proofs.testing.bound_marks.Given as goal
 
 abbrev pub invariant-loop-w : goal.invariant-loop-w

@@ -1,6 +1,5 @@
 -- `preparation::testing::note_sum` looks at one node. Assumes nothing.
-use Rattle.preparation.proofs.SiftingLaws.{noted_no_row, noted_same_end, noted_past}
-use borrow.Author.Rules.{rules}
+use Rattle.preparation.proofs.SiftingLaws.{noted_past}
 use Rattle.preparation.proofs.testing.note_sum.Goals as goal
 
 pub returns : goal.returns

@@ -1,11 +1,5 @@
 -- `preparation::testing::note_sums` notes the sums. Assumes nothing.
-use mathlib.Core.List.{[]}
-use Prim.Native.Nat.{◌-◌}
-use native.Mathlib.Omega.{arith}
-use Rattle.network.specs.Network.{network}
-use Rattle.network.specs.Rows.{columns}
-use Rattle.preparation.specs.Sifting.{cost_read}
-use Rattle.preparation.proofs.SiftingLaws.{Noting, noting_start, noting_more, noting_done}
+use Rattle.preparation.proofs.SiftingLaws.{noting_more}
 use Rattle.preparation.proofs.testing.note_sums.Goals as goal
 
 pub loop-w-preserved : goal.loop-w-preserved

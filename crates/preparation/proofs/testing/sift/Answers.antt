@@ -1,7 +1,5 @@
 -- `preparation::testing::sift` sifts the marks. Assumes nothing.
-use Prim.Native.Nat.{◌-◌}
-use native.Mathlib.Omega.{arith}
-use Rattle.preparation.proofs.SiftingLaws.{Sieving, sieving_start, sieving_more, sieving_done}
+use Rattle.preparation.proofs.SiftingLaws.{sieving_more}
 use Rattle.preparation.proofs.testing.sift.Goals as goal
 
 pub loop-w-preserved : goal.loop-w-preserved

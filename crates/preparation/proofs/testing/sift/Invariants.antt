@@ -1,7 +1,6 @@
 -- `preparation::testing::sift` sifts the marks. Assumes nothing.
 use Prim.Native.Nat.{◌-◌}
-use native.Mathlib.Omega.{arith}
-use Rattle.preparation.proofs.SiftingLaws.{Sieving, sieving_start, sieving_more, sieving_done}
+use Rattle.preparation.proofs.SiftingLaws.{Sieving}
 use Rattle.preparation.proofs.testing.sift.Given as goal
 
 abbrev pub invariant-loop-w : goal.invariant-loop-w

@@ -1,7 +1,5 @@
 -- `preparation::testing::test_from` tests the shortcuts from a node. Assumes nothing.
-use mathlib.Core.Path.{refl, ◌∙◌}
-use Rattle.preparation.proofs.SiftingLaws.{test_sizes, search_sizes, search_rows, tested}
-use borrow.Author.Rules.{rules}
+use Rattle.preparation.proofs.SiftingLaws.{search_rows, tested}
 use Rattle.preparation.proofs.testing.test_from.Goals as goal
 
 pub weigh-requires-clause-around_bound : goal.weigh-requires-clause-around_bound

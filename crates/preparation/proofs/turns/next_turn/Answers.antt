@@ -1,8 +1,5 @@
 -- `preparation::turns::next_turn` tells whose turn comes next. Assumes nothing.
-use Prim.Native.Nat.{◌-◌}
-use native.Mathlib.Omega.{arith}
-use lib.ListN.{length}
-use Rattle.preparation.proofs.Soonest.{Choosing, choosing_start, choosing_more, choosing_done}
+use Rattle.preparation.proofs.Soonest.{choosing_start, choosing_more, choosing_done}
 use Rattle.preparation.proofs.turns.next_turn.Goals as goal
 
 pub loop-x-init : goal.loop-x-init

@@ -1,8 +1,7 @@
 -- `preparation::turns::next_turn` tells whose turn comes next. Assumes nothing.
 use Prim.Native.Nat.{◌-◌}
-use native.Mathlib.Omega.{arith}
 use lib.ListN.{length}
-use Rattle.preparation.proofs.Soonest.{Choosing, choosing_start, choosing_more, choosing_done}
+use Rattle.preparation.proofs.Soonest.{Choosing}
 use Rattle.preparation.proofs.turns.next_turn.Given as goal
 
 abbrev pub invariant-loop-x : goal.invariant-loop-x

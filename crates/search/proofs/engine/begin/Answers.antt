@@ -1,6 +1,5 @@
 -- `search::engine::begin` lays the rooms out. Assumes nothing.
 use Rattle.search.proofs.Starting.{begins}
-use borrow.Author.Rules.{rules}
 use Rattle.search.proofs.engine.begin.Goals as goal
 
 pub returns : goal.returns

@@ -1,21 +1,5 @@
 -- `search::engine::run` searches. Assumes nothing.
-use mathlib.Core.Path.{◌∙◌}
-use native.Mathlib.Omega.{arith}
-use Rattle.network.specs.Network.{network}
-use Rattle.network.specs.Sheet.{sheet_of}
-use Rattle.network.specs.Rows.{columns}
-use Rattle.search.proofs.Attempting.{ready_at}
-use Rattle.search.proofs.SearchLoop.{
-  Searching,
-  left_over,
-  searching_start,
-  turn_inside,
-  turn_light,
-  turn_again,
-  turn_less,
-  turn_over,
-  ran_from,
-}
+use Rattle.search.proofs.SearchLoop.{searching_start, turn_light, turn_again, turn_less, turn_over, ran_from}
 use Rattle.search.proofs.engine.run.Goals as goal
 
 pub loop-sheet-init : goal.loop-sheet-init

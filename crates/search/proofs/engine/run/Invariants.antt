@@ -1,21 +1,8 @@
 -- `search::engine::run` searches. Assumes nothing.
-use mathlib.Core.Path.{◌∙◌}
-use native.Mathlib.Omega.{arith}
 use Rattle.network.specs.Network.{network}
 use Rattle.network.specs.Sheet.{sheet_of}
 use Rattle.network.specs.Rows.{columns}
-use Rattle.search.proofs.Attempting.{ready_at}
-use Rattle.search.proofs.SearchLoop.{
-  Searching,
-  left_over,
-  searching_start,
-  turn_inside,
-  turn_light,
-  turn_again,
-  turn_less,
-  turn_over,
-  ran_from,
-}
+use Rattle.search.proofs.SearchLoop.{Searching, left_over}
 use Rattle.search.proofs.engine.run.Given as goal
 
 abbrev pub invariant-loop-sheet : goal.invariant-loop-sheet

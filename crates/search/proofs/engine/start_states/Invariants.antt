@@ -1,7 +1,6 @@
 -- `search::engine::start_states` labels the starts. Assumes nothing.
 use Prim.Native.Nat.{◌-◌}
-use native.Mathlib.Omega.{arith}
-use Rattle.search.proofs.Starting.{StartingTo, starting_start, starting_more, starting_done}
+use Rattle.search.proofs.Starting.{StartingTo}
 use Rattle.search.proofs.engine.start_states.Given as goal
 
 abbrev pub invariant-loop-q : goal.invariant-loop-q

@@ -3,7 +3,6 @@ use mathlib.Core.Path.{refl}
 use native.Mathlib.Omega.{arith}
 use Rattle.network.proofs.Scanning.{decided_true, decided_false}
 use Rattle.search.proofs.Attempting.{attempt_elsewhere, attempt_lost, attempt_stuck, attempt_down, attempt_level, head_in, mode_known}
-use borrow.Author.Rules.{rules}
 use Rattle.search.proofs.leave.attempt.Goals as goal
 
 pub returns-then-tail_at-p : goal.returns-then-tail_at-p

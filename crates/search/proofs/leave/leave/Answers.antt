@@ -1,9 +1,6 @@
 -- `search::leave::leave` settles a place and tries every row from it. Assumes nothing.
-use mathlib.Core.Path.{refl}
 use native.Mathlib.Omega.{arith}
-use Rattle.search.proofs.Attempting.{ready_at}
-use Rattle.search.proofs.Leaving.{settled_size, settled_hinted, left, light_at}
-use borrow.Author.Rules.{rules}
+use Rattle.search.proofs.Leaving.{left}
 use Rattle.search.proofs.leave.leave.Goals as goal
 
 pub returns : goal.returns

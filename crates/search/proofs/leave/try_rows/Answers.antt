@@ -1,11 +1,8 @@
 -- `search::leave::try_rows` tries every row. Assumes nothing.
-use Prim.Native.Nat.{◌-◌}
 use native.Mathlib.Omega.{arith}
-use Rattle.network.specs.Network.{network}
-use Rattle.network.specs.Sheet.{sheet_of}
-use Rattle.network.specs.Rows.{columns, table}
+use Rattle.network.specs.Rows.{columns}
 use Rattle.network.proofs.RowLaws.{table_length}
-use Rattle.search.proofs.Attempting.{TryingRows, rows_start, rows_more, rows_done, ready_at}
+use Rattle.search.proofs.Attempting.{rows_more, rows_done}
 use Rattle.search.proofs.leave.try_rows.Goals as goal
 
 pub attempt-requires-clause-r_bound : goal.attempt-requires-clause-r_bound

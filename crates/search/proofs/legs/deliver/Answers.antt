@@ -1,9 +1,6 @@
 -- `search::legs::deliver` answers, and writes the journey. Assumes nothing.
-use mathlib.Core.Path.{refl, ap}
-use native.Mathlib.Omega.{arith}
-use Rattle.search.specs.Delivery.{no_place}
-use Rattle.search.proofs.LegLaws.{deliver_short, deliver_whole, reach_leads, rows_fit}
-use borrow.Author.Rules.{rules}
+use mathlib.Core.Path.{ap}
+use Rattle.search.proofs.LegLaws.{reach_leads, rows_fit}
 use Rattle.search.proofs.legs.deliver.Goals as goal
 
 pub write_back-requires-clause-n_value : goal.write_back-requires-clause-n_value

@@ -1,7 +1,6 @@
 -- `search::legs::place_before` tells the place before. Assumes nothing.
 use Rattle.network.specs.Network.{network}
 use Rattle.search.proofs.LegLaws.{place_read}
-use borrow.Author.Rules.{rules}
 use Rattle.search.proofs.legs.place_before.Goals as goal
 
 pub returns : goal.returns

@@ -1,10 +1,8 @@
 -- `search::legs::rows_back` counts the rows that lead to a place. Assumes nothing.
-use mathlib.Core.Path.{sym, ap, ◌∙◌}
-use native.Mathlib.Omega.{arith}
 use Rattle.network.specs.Network.{network}
 use Rattle.network.specs.Rows.{columns, table}
 use Rattle.search.specs.Delivery.{edges_to, rows_to}
-use Rattle.search.proofs.LegLaws.{Counting, leads_in, count_start, count_more, count_falls, count_done}
+use Rattle.search.proofs.LegLaws.{Counting}
 use Rattle.search.proofs.legs.rows_back.Given as goal
 
 abbrev pub invariant-loop-p : goal.invariant-loop-p

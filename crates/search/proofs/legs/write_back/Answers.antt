@@ -1,9 +1,5 @@
 -- `search::legs::write_back` writes the rows that lead to a place. Assumes nothing.
-use native.Mathlib.Omega.{arith}
-use Rattle.network.specs.Network.{network}
-use Rattle.network.specs.Rows.{columns, table}
-use Rattle.search.specs.Delivery.{rows_to}
-use Rattle.search.proofs.LegLaws.{Writing, leads_in, write_start, write_turn, write_done}
+use Rattle.search.proofs.LegLaws.{write_turn, write_done}
 use Rattle.search.proofs.legs.write_back.Goals as goal
 
 pub loop-k-preserved : goal.loop-k-preserved

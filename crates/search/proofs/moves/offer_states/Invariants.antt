@@ -1,7 +1,6 @@
 -- `search::moves::offer_states` offers a label to the places of a next byte's states. Assumes nothing.
 use Prim.Native.Nat.{◌-◌}
-use native.Mathlib.Omega.{arith}
-use Rattle.search.proofs.Arriving.{Offering, states_start, states_more, states_done}
+use Rattle.search.proofs.Arriving.{Offering}
 use Rattle.search.proofs.moves.offer_states.Given as goal
 
 abbrev pub invariant-loop-j : goal.invariant-loop-j

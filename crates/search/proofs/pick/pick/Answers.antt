@@ -1,8 +1,5 @@
 -- `search::pick::pick` finds a lightest waiting place. Assumes nothing.
-use Prim.Native.Nat.{◌-◌}
-use native.Mathlib.Omega.{arith}
-use Rattle.search.specs.Labels.{label, mark}
-use Rattle.search.proofs.Picking.{Looking, look_start, look_more, look_done}
+use Rattle.search.proofs.Picking.{look_start, look_more, look_done}
 use Rattle.search.proofs.pick.pick.Goals as goal
 
 pub loop-p-init : goal.loop-p-init

@@ -1,8 +1,7 @@
 -- `search::pick::pick` finds a lightest waiting place. Assumes nothing.
 use Prim.Native.Nat.{◌-◌}
-use native.Mathlib.Omega.{arith}
 use Rattle.search.specs.Labels.{label, mark}
-use Rattle.search.proofs.Picking.{Looking, look_start, look_more, look_done}
+use Rattle.search.proofs.Picking.{Looking}
 use Rattle.search.proofs.pick.pick.Given as goal
 
 abbrev pub invariant-loop-p : goal.invariant-loop-p

@@ -1,7 +1,6 @@
 -- `search::plain::refusal` finds the first rule that is broken. Assumes nothing.
 use native.Mathlib.Omega.{arith}
-use Rattle.search.proofs.RefusalLaws.{sizes_kept, plain_sizes, plain_rooms, plain_entries, plain_sheet, plain_question}
-use borrow.Author.Rules.{rules}
+use Rattle.search.proofs.RefusalLaws.{plain_sizes, plain_rooms, plain_entries, plain_sheet, plain_question}
 use Rattle.search.proofs.plain.refusal.Goals as goal
 
 pub returns-then-by_network-eq-SIZES : goal.returns-then-by_network-eq-SIZES

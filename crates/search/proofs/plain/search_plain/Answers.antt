@@ -1,7 +1,5 @@
 -- `search::plain::search_plain` answers the question. Assumes nothing.
-use native.Mathlib.Omega.{arith}
 use Rattle.search.proofs.LegLaws.{answered_refused_plain, ran_lent, plain_ready, plain_searched}
-use borrow.Author.Rules.{rules}
 use Rattle.search.proofs.plain.search_plain.Goals as goal
 
 pub returns-then-refused-ne-ANSWERED : goal.returns-then-refused-ne-ANSWERED

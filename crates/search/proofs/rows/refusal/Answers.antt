@@ -1,7 +1,6 @@
 -- `search::rows::refusal` finds the first rule that is broken. Assumes nothing.
 use native.Mathlib.Omega.{arith}
-use Rattle.search.proofs.RefusalLaws.{sizes_kept, rows_network_sizes, rows_table_sizes, rows_rooms, rows_entries, rows_shortcuts, rows_sheet, rows_question}
-use borrow.Author.Rules.{rules}
+use Rattle.search.proofs.RefusalLaws.{rows_network_sizes, rows_table_sizes, rows_rooms, rows_entries, rows_shortcuts, rows_sheet, rows_question}
 use Rattle.search.proofs.rows.refusal.Goals as goal
 
 pub returns-then-by_network-eq-SIZES : goal.returns-then-by_network-eq-SIZES

@@ -1,8 +1,6 @@
 -- `search::rows::search_rows` answers the question. Assumes nothing.
 use mathlib.Core.Path.{refl}
-use native.Mathlib.Omega.{arith}
 use Rattle.search.proofs.LegLaws.{answered_refused, ran_lent, rows_ready, rows_searched}
-use borrow.Author.Rules.{rules}
 use Rattle.search.proofs.rows.search_rows.Goals as goal
 
 pub returns-then-refused-ne-ANSWERED : goal.returns-then-refused-ne-ANSWERED

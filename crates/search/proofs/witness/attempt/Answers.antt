@@ -1,8 +1,6 @@
 -- `search::witness::attempt` tries a row. Assumes nothing.
-use native.Mathlib.Omega.{arith}
-use Rattle.network.proofs.Scanning.{decided_true, decided_false}
-use Rattle.search.proofs.WitnessLaws.{attempt_elsewhere, attempt_link, attempt_tail_shut, attempt_head_shut, attempt_ride}
-use borrow.Author.Rules.{rules}
+use Rattle.network.proofs.Scanning.{decided_true}
+use Rattle.search.proofs.WitnessLaws.{attempt_ride}
 use Rattle.search.proofs.witness.attempt.Goals as goal
 
 pub returns-then-open-2 : goal.returns-then-open-2

@@ -1,9 +1,7 @@
 -- `search::witness::empty` lays the places out. Assumes nothing.
-use mathlib.Core.Path.{refl}
 use Prim.Native.Nat.{◌-◌}
-use native.Mathlib.Omega.{arith}
 use Rattle.search.specs.WitnessSteps.{Emptied}
-use Rattle.search.proofs.WitnessLaws.{Passing, passing_start, passing_more, passing_done}
+use Rattle.search.proofs.WitnessLaws.{Passing}
 use Rattle.search.proofs.witness.empty.Given as goal
 
 abbrev pub invariant-loop-p : goal.invariant-loop-p

@@ -1,9 +1,6 @@
 -- `search::witness::spread` searches. Assumes nothing.
-use mathlib.Core.Path.{◌∙◌}
-use native.Mathlib.Omega.{arith}
 use Rattle.search.specs.Witness.{turn_of}
-use Rattle.search.proofs.WitnessLaws.{spacious_at, fits_spacious}
-use Rattle.search.proofs.WitnessGraph.{Spreading, left_over, spreading_start, turn_inside, turn_addable, turn_again, turn_less, turn_over}
+use Rattle.search.proofs.WitnessGraph.{Spreading, left_over}
 use Rattle.search.proofs.witness.spread.Given as goal
 
 abbrev pub invariant-loop-bound : goal.invariant-loop-bound

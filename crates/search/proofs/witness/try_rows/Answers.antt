@@ -1,8 +1,5 @@
 -- `search::witness::try_rows` tries every row. Assumes nothing.
-use Prim.Native.Nat.{◌-◌}
-use native.Mathlib.Omega.{arith}
-use Rattle.search.specs.Witness.{turn_of}
-use Rattle.search.proofs.WitnessLaws.{TryingRides, rides_start, rides_more, rides_done, spacious_at}
+use Rattle.search.proofs.WitnessLaws.{rides_more}
 use Rattle.search.proofs.witness.try_rows.Goals as goal
 
 pub loop-r-preserved : goal.loop-r-preserved

@@ -1,8 +1,7 @@
 -- `search::witness::try_rows` tries every row. Assumes nothing.
 use Prim.Native.Nat.{◌-◌}
-use native.Mathlib.Omega.{arith}
 use Rattle.search.specs.Witness.{turn_of}
-use Rattle.search.proofs.WitnessLaws.{TryingRides, rides_start, rides_more, rides_done, spacious_at}
+use Rattle.search.proofs.WitnessLaws.{TryingRides}
 use Rattle.search.proofs.witness.try_rows.Given as goal
 
 abbrev pub invariant-loop-r : goal.invariant-loop-r

@@ -1,10 +1,9 @@
 -- `search::witness::witness` makes the witness search. Assumes nothing.
-use mathlib.Core.Path.{refl, ◌∙◌}
+use mathlib.Core.Path.{refl}
 use native.Mathlib.Omega.{arith}
-use Rattle.network.proofs.Scanning.{decided_true, decided_false}
-use Rattle.search.specs.Witness.{unfit, searched}
+use Rattle.network.proofs.Scanning.{decided_true}
+use Rattle.search.specs.Witness.{searched}
 use Rattle.search.proofs.WitnessGraph.{narrow, found}
-use borrow.Author.Rules.{rules}
 use Rattle.search.proofs.witness.witness.Goals as goal
 
 pub returns-then-fits : goal.returns-then-fits

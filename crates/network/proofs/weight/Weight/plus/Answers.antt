@@ -1,7 +1,6 @@
 -- `network::weight::Weight::plus` answers the sum, or none where it is too large. Assumes nothing.
 use mathlib.Core.Path.{refl}
 use native.Mathlib.Omega.{arith}
-use borrow.Author.Rules.{rules}
 use Rattle.network.specs.Weight.{◌⊕◌, whole, too_large}
 use Rattle.network.proofs.weight.Weight.plus.Goals as goal
 
