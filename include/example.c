@@ -1,6 +1,6 @@
 /*
  * The reference network of the scope document, from C: check, prepare, and case P1 by the contracted search.
- *   rt staticlib exports && gcc -Iinclude include/example.c target/staticlib/libexports.a -o target/example && target/example
+ *   (cd crates/exports && rt lib) && gcc -Iinclude include/example.c crates/exports/out/libexports.a -o crates/exports/out/example && crates/exports/out/example
  */
 #include "journeys.h"
 #include <stdio.h>

@@ -1,12 +1,13 @@
 /*
- * The journey core, for C. The library is made by `rt staticlib exports`; link target/staticlib/libexports.a.
+ * The journey core, for C. The library is made by `rt lib` in crates/exports; link crates/exports/out/libexports.a.
  *
  * A column is an array, handed over as a pointer to its first number and how many numbers it has. A pointer points to that many numbers of its
  * type, also where there are none: it is never null. Arrays that a function writes (those that are not const) overlap no other array of the
  * same call. Nothing else is asked of a caller: whatever the numbers are, each function ends, reads and writes the lent arrays only, keeps no
  * pointer, takes no memory of its own but the stack, and says what is wrong by number and place.
  * How much stack is not proved: opening and the contracted search call themselves as deep as shortcuts lie inside each other. The program
- * journeys, whose own arrays take about 250 KB of its stack, ran on every card tried with 512 KB, and not on all with 320 KB.
+ * journeys, whose own arrays take about 250 KB of its stack, ran on every card tried with 512 KB, and not on all with 320 KB (measured with an
+ * older compiler).
  *
  * A network is six columns: of each node its mode (1 to 7) and its rank (65535: core, never contracted), of each edge its tail, its head, its mode
  * (0: a link) and its length in seconds. There are 1 to 512 nodes and 0 to 2048 edges.

@@ -2,15 +2,15 @@
 # Calls the proved library through its C interface and compares it with the independent program.
 #   reference/compare.sh                          a fixed seed and a bounded count: the step of the test command
 #   reference/compare.sh --seed S --calls N       any seed and count (the program's `help` says what else)
-# The library must be there: `rt staticlib exports` makes it.
+# The library must be there: `rt lib` in crates/exports makes it.
 set -eu
 cd "$(dirname "$0")"
-if [ ! -f ../target/staticlib/libexports.a ]; then
-    echo "compare: there is no target/staticlib/libexports.a; rt staticlib exports makes it" >&2
+if [ ! -f ../crates/exports/out/libexports.a ]; then
+    echo "compare: there is no crates/exports/out/libexports.a; rt lib in crates/exports makes it" >&2
     exit 1
 fi
 # a folder of its own, so that the program without the library stays built, too
-JOURNEYS_LIB=$(cd ../target/staticlib && pwd) cargo build --release --quiet --offline --features linked --target-dir target/linked
+JOURNEYS_LIB=$(cd ../crates/exports/out && pwd) cargo build --release --quiet --offline --features linked --target-dir target/linked
 program=target/linked/release/reference
 if [ $# -gt 0 ]; then
     exec "$program" compare "$@"
