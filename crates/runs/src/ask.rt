@@ -4,6 +4,7 @@ use network::answer::Answer;
 use network::sheet::State;
 use search::plain::search_plain;
 use search::rows::search_rows;
+use std::io::Print;
 
 // The plain search tells no number of legs: it wrote as many as it counts, and none with a refusal.
 fn legs_written(a: Answer) -> usize {
@@ -14,6 +15,7 @@ fn legs_written(a: Answer) -> usize {
 }
 
 pub fn plain(
+    stdout: &impl Print,
     name: &[u8],
     node_modes: &[u8],
     node_ranks: &[u16],
@@ -33,12 +35,13 @@ pub fn plain(
         node_modes, node_ranks, tails, heads, modes, lengths, sheet, states, from, to, journey,
         wide, narrow,
     );
-    text(name);
-    text(b" plain ");
-    answer(a, legs_written(a), journey, wide, narrow);
+    text(stdout, name);
+    text(stdout, b" plain ");
+    answer(stdout, a, legs_written(a), journey, wide, narrow);
 }
 
 pub fn rows(
+    stdout: &impl Print,
     name: &[u8],
     node_modes: &[u8],
     node_ranks: &[u16],
@@ -85,7 +88,7 @@ pub fn rows(
     );
     let a = told.answer;
     let written = told.rows;
-    text(name);
-    text(b" rows ");
-    answer(a, written, journey, wide, narrow);
+    text(stdout, name);
+    text(stdout, b" rows ");
+    answer(stdout, a, written, journey, wide, narrow);
 }

@@ -3,8 +3,10 @@ use crate::show::{BLANK, FILLER};
 use crate::{ask, sheets};
 use network::order::CORE;
 use network::sheet::State;
+use std::io::Print;
 
 fn plain(
+    stdout: &impl Print,
     name: &[u8],
     node_modes: &[u8],
     node_ranks: &[u16],
@@ -19,6 +21,7 @@ fn plain(
     let none16: [u16; 0] = [];
     let mut journey = [BLANK; 8];
     ask::plain(
+        stdout,
         name,
         node_modes,
         node_ranks,
@@ -37,6 +40,7 @@ fn plain(
 }
 
 fn rows(
+    stdout: &impl Print,
     name: &[u8],
     node_modes: &[u8],
     node_ranks: &[u16],
@@ -52,6 +56,7 @@ fn rows(
     let none32: [u32; 0] = [];
     let mut journey = [BLANK; 8];
     ask::rows(
+        stdout,
         name,
         node_modes,
         node_ranks,
@@ -78,6 +83,7 @@ fn rows(
 
 // Both searches in rooms for seven nodes.
 fn few(
+    stdout: &impl Print,
     name: &[u8],
     node_modes: &[u8],
     node_ranks: &[u16],
@@ -89,6 +95,7 @@ fn few(
     let mut wide = [FILLER as u64; 112];
     let mut narrow = [FILLER as u32; 224];
     plain(
+        stdout,
         name,
         node_modes,
         node_ranks,
@@ -102,6 +109,7 @@ fn few(
     let mut wide_again = [FILLER as u64; 112];
     let mut narrow_again = [FILLER as u32; 224];
     rows(
+        stdout,
         name,
         node_modes,
         node_ranks,
@@ -115,14 +123,15 @@ fn few(
 }
 
 // One node, in rooms that are larger than it needs: all of them are zeroed.
-pub fn alone(name: &[u8], sheet: [State; 8], states: u8, from: u16, to: u16) {
-    few(name, &[1u8; 1], &[CORE; 1], sheet, states, from, to);
+pub fn alone(stdout: &impl Print, name: &[u8], sheet: [State; 8], states: u8, from: u16, to: u16) {
+    few(stdout, name, &[1u8; 1], &[CORE; 1], sheet, states, from, to);
 }
 
-fn seven(name: &[u8], from: u16, to: u16) {
+fn seven(stdout: &impl Print, name: &[u8], from: u16, to: u16) {
     let node_modes: [u8; 7] = [1, 1, 1, 2, 2, 1, 1];
     let node_ranks: [u16; 7] = [5, 0, CORE, CORE, CORE, CORE, 5];
     few(
+        stdout,
         name,
         &node_modes,
         &node_ranks,
@@ -135,6 +144,7 @@ fn seven(name: &[u8], from: u16, to: u16) {
 
 // The large arrays are lent whole and become slices only here, so that no proof spells them out.
 fn full_plain(
+    stdout: &impl Print,
     name: &[u8],
     node_modes: &[u8; 512],
     node_ranks: &[u16; 512],
@@ -144,6 +154,7 @@ fn full_plain(
     narrow: &mut [u32; 16384],
 ) {
     plain(
+        stdout,
         name,
         node_modes,
         node_ranks,
@@ -157,6 +168,7 @@ fn full_plain(
 }
 
 fn full_rows(
+    stdout: &impl Print,
     name: &[u8],
     node_modes: &[u8; 512],
     node_ranks: &[u16; 512],
@@ -166,6 +178,7 @@ fn full_rows(
     narrow: &mut [u32; 16384],
 ) {
     rows(
+        stdout,
         name,
         node_modes,
         node_ranks,
@@ -178,12 +191,13 @@ fn full_rows(
     );
 }
 
-fn full(name: &[u8], from: u16, to: u16) {
+fn full(stdout: &impl Print, name: &[u8], from: u16, to: u16) {
     let node_modes = [1u8; 512];
     let node_ranks = [CORE; 512];
     let mut wide = [FILLER as u64; 8192];
     let mut narrow = [FILLER as u32; 16384];
     full_plain(
+        stdout,
         name,
         &node_modes,
         &node_ranks,
@@ -195,6 +209,7 @@ fn full(name: &[u8], from: u16, to: u16) {
     let mut wide_again = [FILLER as u64; 8192];
     let mut narrow_again = [FILLER as u32; 16384];
     full_rows(
+        stdout,
         name,
         &node_modes,
         &node_ranks,
@@ -207,6 +222,7 @@ fn full(name: &[u8], from: u16, to: u16) {
 
 // One node too many: the rooms are too short as well, but the size is told first.
 fn over_plain(
+    stdout: &impl Print,
     name: &[u8],
     node_modes: &[u8; 513],
     node_ranks: &[u16; 513],
@@ -214,6 +230,7 @@ fn over_plain(
     narrow: &mut [u32; 16384],
 ) {
     plain(
+        stdout,
         name,
         node_modes,
         node_ranks,
@@ -227,6 +244,7 @@ fn over_plain(
 }
 
 fn over_rows(
+    stdout: &impl Print,
     name: &[u8],
     node_modes: &[u8; 513],
     node_ranks: &[u16; 513],
@@ -234,6 +252,7 @@ fn over_rows(
     narrow: &mut [u32; 16384],
 ) {
     rows(
+        stdout,
         name,
         node_modes,
         node_ranks,
@@ -246,15 +265,23 @@ fn over_rows(
     );
 }
 
-fn overfull(name: &[u8]) {
+fn overfull(stdout: &impl Print, name: &[u8]) {
     let node_modes = [1u8; 513];
     let node_ranks = [CORE; 513];
     let mut wide = [FILLER as u64; 8192];
     let mut narrow = [FILLER as u32; 16384];
-    over_plain(name, &node_modes, &node_ranks, &mut wide, &mut narrow);
+    over_plain(
+        stdout,
+        name,
+        &node_modes,
+        &node_ranks,
+        &mut wide,
+        &mut narrow,
+    );
     let mut wide_again = [FILLER as u64; 8192];
     let mut narrow_again = [FILLER as u32; 16384];
     over_rows(
+        stdout,
         name,
         &node_modes,
         &node_ranks,
@@ -263,11 +290,11 @@ fn overfull(name: &[u8]) {
     );
 }
 
-pub fn run() {
-    full(b"512 nodes, 0 to 511", 0, 511);
-    full(b"512 nodes, 511 to 511", 511, 511);
-    full(b"512 nodes, 0 to 512", 0, 512);
-    overfull(b"513 nodes");
-    seven(b"no edges, 0 to 6", 0, 6);
-    seven(b"no edges, 6 to 6", 6, 6);
+pub fn run(stdout: &impl Print) {
+    full(stdout, b"512 nodes, 0 to 511", 0, 511);
+    full(stdout, b"512 nodes, 511 to 511", 511, 511);
+    full(stdout, b"512 nodes, 0 to 512", 0, 512);
+    overfull(stdout, b"513 nodes");
+    seven(stdout, b"no edges, 0 to 6", 0, 6);
+    seven(stdout, b"no edges, 6 to 6", 6, 6);
 }

@@ -3,10 +3,12 @@ use crate::reference::{plain_in, rows_in, table_in};
 use crate::sheets;
 use crate::show::{BLANK, FILLER};
 use network::order::CORE;
+use std::io::Print;
 
-fn ask_plain(name: &[u8], wide: &mut [u64], narrow: &mut [u32]) {
+fn ask_plain(stdout: &impl Print, name: &[u8], wide: &mut [u64], narrow: &mut [u32]) {
     let mut journey = [BLANK; 8];
     plain_in(
+        stdout,
         name,
         CORE,
         9,
@@ -20,9 +22,17 @@ fn ask_plain(name: &[u8], wide: &mut [u64], narrow: &mut [u32]) {
     );
 }
 
-fn ask_rows(name: &[u8], first: u16, second: u16, wide: &mut [u64], narrow: &mut [u32]) {
+fn ask_rows(
+    stdout: &impl Print,
+    name: &[u8],
+    first: u16,
+    second: u16,
+    wide: &mut [u64],
+    narrow: &mut [u32],
+) {
     let mut journey = [BLANK; 8];
     table_in(
+        stdout,
         name,
         CORE,
         9,
@@ -38,31 +48,32 @@ fn ask_rows(name: &[u8], first: u16, second: u16, wide: &mut [u64], narrow: &mut
     );
 }
 
-fn wide_short(name: &[u8]) {
+fn wide_short(stdout: &impl Print, name: &[u8]) {
     let mut wide = [FILLER as u64; 111];
     let mut narrow = [FILLER as u32; 224];
-    ask_plain(name, &mut wide, &mut narrow);
+    ask_plain(stdout, name, &mut wide, &mut narrow);
     let mut wide_again = [FILLER as u64; 111];
     let mut narrow_again = [FILLER as u32; 224];
-    ask_rows(name, 0, 1, &mut wide_again, &mut narrow_again);
+    ask_rows(stdout, name, 0, 1, &mut wide_again, &mut narrow_again);
 }
 
-fn narrow_short(name: &[u8]) {
+fn narrow_short(stdout: &impl Print, name: &[u8]) {
     let mut wide = [FILLER as u64; 112];
     let mut narrow = [FILLER as u32; 223];
-    ask_plain(name, &mut wide, &mut narrow);
+    ask_plain(stdout, name, &mut wide, &mut narrow);
     let mut wide_again = [FILLER as u64; 112];
     let mut narrow_again = [FILLER as u32; 223];
-    ask_rows(name, 0, 1, &mut wide_again, &mut narrow_again);
+    ask_rows(stdout, name, 0, 1, &mut wide_again, &mut narrow_again);
 }
 
 // The column of second children lacks its only entry.
-fn uneven(name: &[u8]) {
+fn uneven(stdout: &impl Print, name: &[u8]) {
     let none16: [u16; 0] = [];
     let mut journey = [BLANK; 8];
     let mut wide = [FILLER as u64; 112];
     let mut narrow = [FILLER as u32; 224];
     rows_in(
+        stdout,
         name,
         CORE,
         9,
@@ -83,16 +94,16 @@ fn uneven(name: &[u8]) {
     );
 }
 
-fn children(name: &[u8], first: u16, second: u16) {
+fn children(stdout: &impl Print, name: &[u8], first: u16, second: u16) {
     let mut wide = [FILLER as u64; 112];
     let mut narrow = [FILLER as u32; 224];
-    ask_rows(name, first, second, &mut wide, &mut narrow);
+    ask_rows(stdout, name, first, second, &mut wide, &mut narrow);
 }
 
-pub fn run() {
-    wide_short(b"wide room 111");
-    narrow_short(b"narrow room 223");
-    uneven(b"uneven columns");
-    children(b"own first child", 8, 1);
-    children(b"own second child", 0, 8);
+pub fn run(stdout: &impl Print) {
+    wide_short(stdout, b"wide room 111");
+    narrow_short(stdout, b"narrow room 223");
+    uneven(stdout, b"uneven columns");
+    children(stdout, b"own first child", 8, 1);
+    children(stdout, b"own second child", 0, 8);
 }

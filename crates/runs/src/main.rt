@@ -10,9 +10,10 @@ mod sheets;
 mod show;
 mod trips;
 
-fn main() {
-    trips::run();
-    crowd::run();
-    limits::run();
-    damage::run();
+fn main(rt: HostRuntime) {
+    let stdout = rt.stdout();
+    trips::run(&stdout);
+    crowd::run(&stdout);
+    limits::run(&stdout);
+    damage::run(&stdout);
 }

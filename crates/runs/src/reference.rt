@@ -2,9 +2,11 @@
 use crate::ask;
 use crate::show::{BLANK, FILLER};
 use network::sheet::State;
+use std::io::Print;
 
 // The plain search in lent rooms.
 pub fn plain_in(
+    stdout: &impl Print,
     name: &[u8],
     rank: u16,
     length: u16,
@@ -23,6 +25,7 @@ pub fn plain_in(
     let modes: [u8; 8] = [1, 1, 0, 2, 0, 1, 1, 1];
     let lengths: [u16; 8] = [4, 3, 2, 6, 2, 5, length, 30];
     ask::plain(
+        stdout,
         name,
         &node_modes,
         &node_ranks,
@@ -42,6 +45,7 @@ pub fn plain_in(
 
 // The search over rows in lent rooms, with a lent table.
 pub fn rows_in(
+    stdout: &impl Print,
     name: &[u8],
     rank: u16,
     length: u16,
@@ -67,6 +71,7 @@ pub fn rows_in(
     let modes: [u8; 8] = [1, 1, 0, 2, 0, 1, 1, 1];
     let lengths: [u16; 8] = [4, 3, 2, 6, 2, 5, length, 30];
     ask::rows(
+        stdout,
         name,
         &node_modes,
         &node_ranks,
@@ -93,6 +98,7 @@ pub fn rows_in(
 
 // The search over rows with the prepared table: row 8 from 0 to 2, with the children `first` and `second`, which are 0 and 1 where it is sound.
 pub fn table_in(
+    stdout: &impl Print,
     name: &[u8],
     rank: u16,
     length: u16,
@@ -107,6 +113,7 @@ pub fn table_in(
     narrow: &mut [u32],
 ) {
     rows_in(
+        stdout,
         name,
         rank,
         length,
@@ -127,11 +134,21 @@ pub fn table_in(
     );
 }
 
-fn plain(name: &[u8], rank: u16, length: u16, sheet: [State; 8], states: u8, from: u16, to: u16) {
+fn plain(
+    stdout: &impl Print,
+    name: &[u8],
+    rank: u16,
+    length: u16,
+    sheet: [State; 8],
+    states: u8,
+    from: u16,
+    to: u16,
+) {
     let mut journey = [BLANK; 8];
     let mut wide = [FILLER as u64; 112];
     let mut narrow = [FILLER as u32; 224];
     plain_in(
+        stdout,
         name,
         rank,
         length,
@@ -146,6 +163,7 @@ fn plain(name: &[u8], rank: u16, length: u16, sheet: [State; 8], states: u8, fro
 }
 
 fn prepared(
+    stdout: &impl Print,
     name: &[u8],
     rank: u16,
     length: u16,
@@ -158,6 +176,7 @@ fn prepared(
     let mut wide = [FILLER as u64; 112];
     let mut narrow = [FILLER as u32; 224];
     table_in(
+        stdout,
         name,
         rank,
         length,
@@ -174,6 +193,7 @@ fn prepared(
 }
 
 fn unprepared(
+    stdout: &impl Print,
     name: &[u8],
     rank: u16,
     length: u16,
@@ -189,6 +209,7 @@ fn unprepared(
     let mut wide = [FILLER as u64; 112];
     let mut narrow = [FILLER as u32; 224];
     rows_in(
+        stdout,
         name,
         rank,
         length,
@@ -211,6 +232,7 @@ fn unprepared(
 
 // Both searches, the one over rows with the shortcut that preparation makes.
 pub fn with_shortcut(
+    stdout: &impl Print,
     name: &[u8],
     rank: u16,
     length: u16,
@@ -219,12 +241,13 @@ pub fn with_shortcut(
     from: u16,
     to: u16,
 ) {
-    plain(name, rank, length, sheet, states, from, to);
-    prepared(name, rank, length, sheet, states, from, to);
+    plain(stdout, name, rank, length, sheet, states, from, to);
+    prepared(stdout, name, rank, length, sheet, states, from, to);
 }
 
 // Both searches, where edge 6 is so short that preparation makes no shortcut.
 pub fn without_shortcut(
+    stdout: &impl Print,
     name: &[u8],
     rank: u16,
     length: u16,
@@ -233,6 +256,6 @@ pub fn without_shortcut(
     from: u16,
     to: u16,
 ) {
-    plain(name, rank, length, sheet, states, from, to);
-    unprepared(name, rank, length, sheet, states, from, to);
+    plain(stdout, name, rank, length, sheet, states, from, to);
+    unprepared(stdout, name, rank, length, sheet, states, from, to);
 }

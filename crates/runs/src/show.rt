@@ -1,7 +1,7 @@
 // One line a case: the answer, the legs that were written, and what became of the lent rooms.
 use columns::{at16, at32, at64};
-use libc::STDOUT_FILENO;
 use network::answer::Answer;
+use std::io::Print;
 
 // What every work room is filled with before a search: no search leaves it by chance.
 pub const FILLER: u8 = 7;
@@ -9,28 +9,29 @@ pub const FILLER: u8 = 7;
 // What every journey room is filled with: no leg has this number.
 pub const BLANK: u16 = 9999;
 
-pub fn text(bytes: &[u8]) {
-    io::write_all(STDOUT_FILENO, bytes);
+// A write that fails is passed over here, and in `number`: what it leaves out is missing from the output.
+pub fn text(stdout: &impl Print, bytes: &[u8]) {
+    let _ = stdout.write_all(bytes);
 }
 
-fn number(n: u64) {
-    io::print_decimal(STDOUT_FILENO, n);
+fn number(stdout: &impl Print, n: u64) {
+    let _ = stdout.print(n);
 }
 
-fn spaced(n: u64) {
-    text(b" ");
-    number(n);
+fn spaced(stdout: &impl Print, n: u64) {
+    text(stdout, b" ");
+    number(stdout, n);
 }
 
-fn leg(n: u16) {
-    spaced(n as u64);
+fn leg(stdout: &impl Print, n: u16) {
+    spaced(stdout, n as u64);
 }
 
 // The first `written` places of the journey room.
-fn legs(journey: &[u16], written: usize) {
+fn legs(stdout: &impl Print, journey: &[u16], written: usize) {
     let mut i = 0;
     while i < written {
-        leg(at16(journey, i));
+        leg(stdout, at16(journey, i));
         i += 1;
     }
 }
@@ -77,34 +78,41 @@ fn both_hold(wide: &[u64], narrow: &[u32], value: u8) -> bool {
     false
 }
 
-fn rooms(wide: &[u64], narrow: &[u32]) {
+fn rooms(stdout: &impl Print, wide: &[u64], narrow: &[u32]) {
     if both_hold(wide, narrow, 0) {
-        text(b"; rooms zero");
+        text(stdout, b"; rooms zero");
         return;
     }
     if both_hold(wide, narrow, FILLER) {
-        text(b"; rooms untouched");
+        text(stdout, b"; rooms untouched");
         return;
     }
-    text(b"; rooms MIXED");
+    text(stdout, b"; rooms MIXED");
 }
 
-fn rest(journey: &[u16], written: usize) {
+fn rest(stdout: &impl Print, journey: &[u16], written: usize) {
     if rest_blank(journey, written) {
-        text(b"; rest untouched\n");
+        text(stdout, b"; rest untouched\n");
         return;
     }
-    text(b"; rest TOUCHED\n");
+    text(stdout, b"; rest TOUCHED\n");
 }
 
 // The line behind the case's name: number, place, time, count, the legs, and the lent rooms.
-pub fn answer(a: Answer, written: usize, journey: &[u16], wide: &[u64], narrow: &[u32]) {
-    number(a.number as u64);
-    spaced(a.place);
-    spaced(a.time);
-    spaced(a.count as u64);
-    text(b":");
-    legs(journey, written);
-    rooms(wide, narrow);
-    rest(journey, written);
+pub fn answer(
+    stdout: &impl Print,
+    a: Answer,
+    written: usize,
+    journey: &[u16],
+    wide: &[u64],
+    narrow: &[u32],
+) {
+    number(stdout, a.number as u64);
+    spaced(stdout, a.place);
+    spaced(stdout, a.time);
+    spaced(stdout, a.count as u64);
+    text(stdout, b":");
+    legs(stdout, journey, written);
+    rooms(stdout, wide, narrow);
+    rest(stdout, journey, written);
 }
