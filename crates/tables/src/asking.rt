@@ -6,6 +6,7 @@ use columns::at8;
 use contraction::contracted::search_contracted;
 use network::sheet::State;
 use search::plain::search_plain;
+use std::io::Print;
 
 // How many bytes a question takes.
 pub(crate) const QUESTION_BYTES: usize = 29;
@@ -29,6 +30,7 @@ fn question_at(input: &[u8], at: usize) -> Question {
 }
 
 fn ask_plain(
+    stdout: &impl Print,
     question: Question,
     nodes: usize,
     edges: usize,
@@ -58,10 +60,11 @@ fn ask_plain(
         wide,
         narrow,
     );
-    show::answer(told);
+    show::answer(stdout, told);
 }
 
 fn ask_contracted(
+    stdout: &impl Print,
     question: Question,
     nodes: usize,
     edges: usize,
@@ -106,11 +109,12 @@ fn ask_contracted(
         wide,
         narrow,
     );
-    show::answer(told);
+    show::answer(stdout, told);
 }
 
 // The question that stands at `at`, over so many shortcut rows.
 fn ask(
+    stdout: &impl Print,
     input: &[u8],
     at: usize,
     sizes: Sizes,
@@ -136,10 +140,11 @@ fn ask(
     let nodes = sizes.nodes as usize;
     let edges = sizes.edges as usize;
     ask_plain(
-        question, nodes, edges, node_modes, node_ranks, tails, heads, modes, lengths, journey,
-        wide, narrow,
+        stdout, question, nodes, edges, node_modes, node_ranks, tails, heads, modes, lengths,
+        journey, wide, narrow,
     );
     ask_contracted(
+        stdout,
         question,
         nodes,
         edges,
@@ -165,6 +170,7 @@ fn ask(
 
 // All questions of the network; the first stands at `at`.
 pub(crate) fn ask_all(
+    stdout: &impl Print,
     input: &[u8],
     at: usize,
     sizes: Sizes,
@@ -191,6 +197,7 @@ pub(crate) fn ask_all(
     let mut i = 0u8;
     while i < questions {
         ask(
+            stdout,
             input,
             place + QUESTION_BYTES * i as usize,
             sizes,

@@ -5,6 +5,7 @@ use crate::loading::Sizes;
 use crate::show;
 use contraction::prepare::prepare;
 use network::answer::Answer;
+use std::io::Print;
 
 // What every lent row is filled with.
 const FILLER: u8 = 7;
@@ -80,6 +81,7 @@ fn rows_to_search(made: Answer, lent: usize) -> usize {
 
 // The network in front of the columns, whose questions stand at `at`.
 pub(crate) fn prepare_and_ask(
+    stdout: &impl Print,
     input: &[u8],
     at: usize,
     sizes: Sizes,
@@ -121,8 +123,9 @@ pub(crate) fn prepare_and_ask(
         &mut wide,
         &mut narrow,
     );
-    show::prepared(made);
+    show::prepared(stdout, made);
     show::table(
+        stdout,
         lent,
         &shortcut_tails,
         &shortcut_heads,
@@ -133,6 +136,7 @@ pub(crate) fn prepare_and_ask(
         &shortcut_seconds,
     );
     ask_all(
+        stdout,
         input,
         at,
         sizes,

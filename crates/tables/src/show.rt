@@ -1,7 +1,7 @@
 // The lines about tables and answers.
 use columns::{at8, at16, at32};
-use libc::STDOUT_FILENO;
 use network::answer::Answer;
+use std::io::Print;
 
 // The largest prime below 2^32.
 const PRIME: u64 = 4294967291;
@@ -9,34 +9,35 @@ const PRIME: u64 = 4294967291;
 // Tables of more lent rows are told by their checksum.
 const FEW: usize = 64;
 
-pub(crate) fn letter(byte: u8) {
-    io::write_all(STDOUT_FILENO, &[byte]);
+// A write that fails is passed over here, and in `number`: what it leaves out is missing from the output.
+pub(crate) fn letter(stdout: &impl Print, byte: u8) {
+    let _ = stdout.write_all(&[byte]);
 }
 
-fn number(n: u64) {
-    io::print_decimal(STDOUT_FILENO, n);
+fn number(stdout: &impl Print, n: u64) {
+    let _ = stdout.print(n);
 }
 
-fn spaced(n: u64) {
-    letter(b' ');
-    number(n);
+fn spaced(stdout: &impl Print, n: u64) {
+    letter(stdout, b' ');
+    number(stdout, n);
 }
 
 // What preparation answered.
-pub(crate) fn prepared(a: Answer) {
-    number(a.number as u64);
-    spaced(a.place);
-    spaced(a.count as u64);
-    letter(b'\n');
+pub(crate) fn prepared(stdout: &impl Print, a: Answer) {
+    number(stdout, a.number as u64);
+    spaced(stdout, a.place);
+    spaced(stdout, a.count as u64);
+    letter(stdout, b'\n');
 }
 
 // What a search answered.
-pub(crate) fn answer(a: Answer) {
-    number(a.number as u64);
-    spaced(a.place);
-    spaced(a.time);
-    spaced(a.count as u64);
-    letter(b'\n');
+pub(crate) fn answer(stdout: &impl Print, a: Answer) {
+    number(stdout, a.number as u64);
+    spaced(stdout, a.place);
+    spaced(stdout, a.time);
+    spaced(stdout, a.count as u64);
+    letter(stdout, b'\n');
 }
 
 fn wide8(n: u8) -> u64 {
@@ -52,6 +53,7 @@ fn wide32(n: u32) -> u64 {
 }
 
 fn row(
+    stdout: &impl Print,
     i: usize,
     tails: &[u16],
     heads: &[u16],
@@ -61,17 +63,18 @@ fn row(
     firsts: &[u16],
     seconds: &[u16],
 ) {
-    number(wide16(at16(tails, i)));
-    spaced(wide16(at16(heads, i)));
-    spaced(wide8(at8(modes, i)));
-    spaced(wide32(at32(lengths, i)));
-    spaced(wide16(at16(counts, i)));
-    spaced(wide16(at16(firsts, i)));
-    spaced(wide16(at16(seconds, i)));
-    letter(b'\n');
+    number(stdout, wide16(at16(tails, i)));
+    spaced(stdout, wide16(at16(heads, i)));
+    spaced(stdout, wide8(at8(modes, i)));
+    spaced(stdout, wide32(at32(lengths, i)));
+    spaced(stdout, wide16(at16(counts, i)));
+    spaced(stdout, wide16(at16(firsts, i)));
+    spaced(stdout, wide16(at16(seconds, i)));
+    letter(stdout, b'\n');
 }
 
 fn each_row(
+    stdout: &impl Print,
     lent: usize,
     tails: &[u16],
     heads: &[u16],
@@ -83,7 +86,9 @@ fn each_row(
 ) {
     let mut i = 0;
     while i < lent {
-        row(i, tails, heads, modes, lengths, counts, firsts, seconds);
+        row(
+            stdout, i, tails, heads, modes, lengths, counts, firsts, seconds,
+        );
         i += 1;
     }
 }
@@ -137,6 +142,7 @@ fn checksum(
 
 // All lent rows, those that preparation zeroed included.
 pub(crate) fn table(
+    stdout: &impl Print,
     lent: usize,
     tails: &[u16; 4096],
     heads: &[u16; 4096],
@@ -147,9 +153,14 @@ pub(crate) fn table(
     seconds: &[u16; 4096],
 ) {
     if lent <= FEW {
-        each_row(lent, tails, heads, modes, lengths, counts, firsts, seconds);
+        each_row(
+            stdout, lent, tails, heads, modes, lengths, counts, firsts, seconds,
+        );
         return;
     }
-    number(checksum(lent, tails, heads, modes, lengths, counts, firsts, seconds));
-    letter(b'\n');
+    number(
+        stdout,
+        checksum(lent, tails, heads, modes, lengths, counts, firsts, seconds),
+    );
+    letter(stdout, b'\n');
 }

@@ -4,6 +4,7 @@ use crate::loading::{FAR, Sizes, load_edges, load_nodes, sizes_at};
 use crate::preparing::prepare_and_ask;
 use crate::show::letter;
 use columns::at8;
+use std::io::Print;
 
 // More than there are stored networks.
 const MANY: u32 = 1000;
@@ -12,11 +13,11 @@ const MANY: u32 = 1000;
 const HEAD_BYTES: usize = 7;
 
 // Writes the name that begins at `at`, and its line feed. The place behind it.
-fn write_name(input: &[u8], at: usize, n: usize) -> usize {
+fn write_name(stdout: &impl Print, input: &[u8], at: usize, n: usize) -> usize {
     let mut i = at;
     while i < n {
         let byte = at8(input, i);
-        letter(byte);
+        letter(stdout, byte);
         i += 1;
         if byte == b'\n' {
             return i;
@@ -26,7 +27,7 @@ fn write_name(input: &[u8], at: usize, n: usize) -> usize {
 }
 
 // The network of these sizes whose columns stand at `at`, and whose questions stand at `asks`.
-fn run_network(input: &[u8], at: usize, asks: usize, sizes: Sizes) {
+fn run_network(stdout: &impl Print, input: &[u8], at: usize, asks: usize, sizes: Sizes) {
     let mut node_modes = [0u8; 513];
     let mut node_ranks = [0u16; 513];
     let mut tails = [0u16; 2048];
@@ -45,6 +46,7 @@ fn run_network(input: &[u8], at: usize, asks: usize, sizes: Sizes) {
         sizes.edges,
     );
     prepare_and_ask(
+        stdout,
         input,
         asks,
         sizes,
@@ -58,24 +60,24 @@ fn run_network(input: &[u8], at: usize, asks: usize, sizes: Sizes) {
 }
 
 // The stored network whose name begins at `at`. The place behind it.
-fn run_one(input: &[u8], at: usize, n: usize) -> usize {
-    let head = write_name(input, at, n) % FAR;
+fn run_one(stdout: &impl Print, input: &[u8], at: usize, n: usize) -> usize {
+    let head = write_name(stdout, input, at, n) % FAR;
     let sizes = sizes_at(input, head);
     let columns = head + HEAD_BYTES;
     let asks = columns + 3 * sizes.nodes as usize + 7 * sizes.edges as usize;
-    run_network(input, columns, asks, sizes);
+    run_network(stdout, input, columns, asks, sizes);
     asks + QUESTION_BYTES * sizes.questions as usize
 }
 
 // All that the n bytes of input hold.
-pub(crate) fn run(input: &[u8], n: usize) {
+pub(crate) fn run(stdout: &impl Print, input: &[u8], n: usize) {
     let mut at = 0;
     let mut left = MANY;
     while 0 < left {
         if n <= at {
             return;
         }
-        at = run_one(input, at, n);
+        at = run_one(stdout, input, at, n);
         left -= 1;
     }
 }
