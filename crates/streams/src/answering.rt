@@ -2,18 +2,19 @@
 use card::reader::{Reader, begin};
 use card::stream::{feed, finish};
 use columns::at8;
-use libc::STDOUT_FILENO;
+use std::io::Print;
 
-// Writes the line that is owed, if there is one.
-fn write_owed(reader: Reader, line: &[u8]) {
+// Writes the line that is owed, if there is one. A write that fails is passed over: what it leaves out is missing from the output.
+fn write_owed(stdout: &impl Print, reader: Reader, line: &[u8]) {
     let written = reader.written;
     if line.len() < written {
         return;
     }
-    io::write_all(STDOUT_FILENO, &line[0..written]);
+    let _ = stdout.write_all(&line[0..written]);
 }
 
 fn take_byte(
+    stdout: &impl Print,
     reader: Reader,
     byte: u8,
     node_modes: &mut [u8; 512],
@@ -55,12 +56,13 @@ fn take_byte(
         narrow,
         line,
     );
-    write_owed(next, line);
+    write_owed(stdout, next, line);
     next
 }
 
 // The bytes of the input at the places `from` to `to`. Those behind a refusal are handed over too, and owe nothing.
 fn take_bytes(
+    stdout: &impl Print,
     reader: Reader,
     input: &[u8],
     from: usize,
@@ -87,6 +89,7 @@ fn take_bytes(
     let mut i = from;
     while i < to {
         reached = take_byte(
+            stdout,
             reached,
             at8(input, i),
             node_modes,
@@ -113,13 +116,13 @@ fn take_bytes(
 }
 
 // The stream is at its end.
-fn close(reader: Reader, line: &mut [u8; 32768]) {
+fn close(stdout: &impl Print, reader: Reader, line: &mut [u8; 32768]) {
     let last = finish(reader, line);
-    write_owed(last, line);
+    write_owed(stdout, last, line);
 }
 
 // The stream that stands at the places `from` to `to` of the input.
-pub(crate) fn answer(input: &[u8], from: usize, to: usize) {
+pub(crate) fn answer(stdout: &impl Print, input: &[u8], from: usize, to: usize) {
     let mut node_modes = [0u8; 512];
     let mut node_ranks = [0u16; 512];
     let mut tails = [0u16; 2048];
@@ -138,6 +141,7 @@ pub(crate) fn answer(input: &[u8], from: usize, to: usize) {
     let mut narrow = [0u32; 16384];
     let mut line = [0u8; 32768];
     let last = take_bytes(
+        stdout,
         begin(),
         input,
         from,
@@ -160,5 +164,5 @@ pub(crate) fn answer(input: &[u8], from: usize, to: usize) {
         &mut narrow,
         &mut line,
     );
-    close(last, &mut line);
+    close(stdout, last, &mut line);
 }

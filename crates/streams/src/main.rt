@@ -7,10 +7,28 @@
 mod answering;
 mod stored;
 
-use libc::STDIN_FILENO;
+ghost use Rattle.std.specs.Prelude.{◌≤◌, length};
 
-fn main() {
+use std::io::{ErrorKind, Read};
+
+// Reads until the room is full, the input ends or a read fails. How many bytes came.
+fn read_full(stdin: &mut impl Read, input: &mut [u8]) -> usize
+    ensures { result ≤ length input.new }
+{
+    let mut done = 0;
+    for _ in 0..u64::MAX {
+        match stdin.read(&mut input[done..]) {
+            Ok(0) => return done,
+            Ok(n) => done += n,
+            Err(e) if e.kind() == ErrorKind::Interrupted => {}
+            Err(_) => return done,
+        }
+    }
+    done
+}
+
+fn main(rt: HostRuntime) {
     let mut input = [0u8; 32768];
-    let n = io::read_full(STDIN_FILENO, &mut input);
-    stored::run(&input, n);
+    let n = read_full(&mut rt.stdin(), &mut input);
+    stored::run(&rt.stdout(), &input, n);
 }

@@ -1,0 +1,6 @@
+-- `streams::read_full` puts no more than the room holds. Assumes nothing.
+use Rattle.std.proofs.Common.{◌≤◌, length}
+use Rattle.streams.proofs.read_full.Given as goal
+
+abbrev pub invariant-loop : goal.invariant-loop
+invariant-loop g l = l.done ≤ length l.input
