@@ -11,7 +11,7 @@ use reading::read_stream;
 // Every table that the unit needs stands here, once, at the limits of the scope document: 512 nodes, 2,048 edges, 4,096 rows for shortcuts,
 // 4,096 places for a journey, and work rooms of 16 and 32 numbers per node. The longest line has 4,095 legs of up to four digits, each with its
 // space, behind a time and a count: less than 32,768 bytes, and less than what the card's quick test of room asks for. So about 250 KB lie on the stack.
-fn main() {
+fn main(rt: HostRuntime) {
     let mut input = [0u8; 4096];
     let mut node_modes = [0u8; 512];
     let mut node_ranks = [0u16; 512];
@@ -31,6 +31,8 @@ fn main() {
     let mut narrow = [0u32; 16384];
     let mut line = [0u8; 32768];
     read_stream(
+        &mut rt.stdin(),
+        &rt.stdout(),
         begin(),
         &mut input,
         &mut node_modes,

@@ -2,15 +2,15 @@
 use card::reader::Reader;
 use card::stream::{feed, finish};
 use columns::at8;
-use libc::{STDIN_FILENO, STDOUT_FILENO};
+use std::io::{ErrorKind, Print, Read};
 
 // Writes the line that is owed, if there is one, with one write. Where nobody takes it there is nothing left to do: the stream is over.
-fn write_owed(reader: Reader, line: &[u8]) -> Reader {
+fn write_owed(stdout: &impl Print, reader: Reader, line: &[u8]) -> Reader {
     let written = reader.written;
     if line.len() < written {
         return reader;
     }
-    if io::write_all(STDOUT_FILENO, &line[0..written]) {
+    if stdout.write_all(&line[0..written]).is_ok() {
         return reader;
     }
     stopped(reader)
@@ -24,13 +24,14 @@ fn stopped(reader: Reader) -> Reader {
 }
 
 // The input is at its end, or cannot be read any further, which is told as a stream that is cut there.
-fn close(reader: Reader, line: &mut [u8; 32768]) -> Reader {
+fn close(stdout: &impl Print, reader: Reader, line: &mut [u8; 32768]) -> Reader {
     let last = finish(reader, line);
-    stopped(write_owed(last, line))
+    stopped(write_owed(stdout, last, line))
 }
 
 // One byte; its line, if it owes one, is out before the next is looked at.
 fn take_byte(
+    stdout: &impl Print,
     reader: Reader,
     byte: u8,
     node_modes: &mut [u8; 512],
@@ -72,11 +73,12 @@ fn take_byte(
         narrow,
         line,
     );
-    write_owed(next, line)
+    write_owed(stdout, next, line)
 }
 
 // The n bytes that one read brought.
 fn take_piece(
+    stdout: &impl Print,
     reader: Reader,
     input: &[u8],
     n: usize,
@@ -105,6 +107,7 @@ fn take_piece(
             return reached;
         }
         reached = take_byte(
+            stdout,
             reached,
             at8(input, i),
             node_modes,
@@ -132,6 +135,8 @@ fn take_piece(
 
 // One read, of however many bytes there are, and what follows from it.
 fn turn(
+    stdin: &mut impl Read,
+    stdout: &impl Print,
     reader: Reader,
     input: &mut [u8; 4096],
     node_modes: &mut [u8; 512],
@@ -152,12 +157,17 @@ fn turn(
     narrow: &mut [u32; 16384],
     line: &mut [u8; 32768],
 ) -> Reader {
-    let got = libc::read(STDIN_FILENO, input);
-    let n = io::count(got, input);
+    let n = match stdin.read(input) {
+        Ok(n) => n,
+        // A signal came before the first byte: the next turn reads.
+        Err(e) if e.kind() == ErrorKind::Interrupted => return reader,
+        Err(_) => 0,
+    };
     if n == 0 {
-        return close(reader, line);
+        return close(stdout, reader, line);
     }
     take_piece(
+        stdout,
         reader,
         input,
         n,
@@ -183,6 +193,8 @@ fn turn(
 
 // A proved loop has to end, and nothing says that a stream does: the turns are counted down from a number that no run uses up.
 pub(crate) fn read_stream(
+    stdin: &mut impl Read,
+    stdout: &impl Print,
     reader: Reader,
     input: &mut [u8; 4096],
     node_modes: &mut [u8; 512],
@@ -210,6 +222,8 @@ pub(crate) fn read_stream(
             return;
         }
         reached = turn(
+            stdin,
+            stdout,
             reached,
             input,
             node_modes,
