@@ -2,7 +2,7 @@
 use card::reader::Reader;
 use card::stream::{feed, finish};
 use columns::at8;
-use std::io::{ErrorKind, Print, Read};
+use std::io::{Print, Read};
 
 // Writes the line that is owed, if there is one, with one write. Where nobody takes it there is nothing left to do: the stream is over.
 fn write_owed(stdout: &impl Print, reader: Reader, line: &[u8]) -> Reader {
@@ -157,12 +157,7 @@ fn turn(
     narrow: &mut [u32; 16384],
     line: &mut [u8; 32768],
 ) -> Reader {
-    let n = match stdin.read(input) {
-        Ok(n) => n,
-        // A signal came before the first byte: the next turn reads.
-        Err(e) if e.kind() == ErrorKind::Interrupted => return reader,
-        Err(_) => 0,
-    };
+    let n = stdin.read(input).unwrap_or(0);
     if n == 0 {
         return close(stdout, reader, line);
     }

@@ -16,19 +16,17 @@ mod stored;
 
 ghost use Rattle.std.specs.Prelude.{◌≤◌, length};
 
-use std::io::{ErrorKind, Read};
+use std::io::Read;
 
 // Reads until the room is full, the input ends or a read fails. How many bytes came.
 fn read_full(stdin: &mut impl Read, input: &mut [u8]) -> usize
     ensures { result ≤ length input.new }
 {
     let mut done = 0;
-    for _ in 0..u64::MAX {
+    while done < input.len() {
         match stdin.read(&mut input[done..]) {
-            Ok(0) => return done,
+            Ok(0) | Err(_) => return done,
             Ok(n) => done += n,
-            Err(e) if e.kind() == ErrorKind::Interrupted => {}
-            Err(_) => return done,
         }
     }
     done
