@@ -1,4 +1,5 @@
 -- `legs::opening::openable` tells whether a row may be opened into a room of so many numbers. Assumes nothing.
+use native.Mathlib.Omega.{arith}
 use Rattle.legs.proofs.Accepting.{network_kept, rows_kept}
 use Rattle.legs.proofs.Openings.{row_absent, room_short, may_open}
 use Rattle.legs.proofs.opening.openable.Goals as goal
@@ -10,4 +11,4 @@ pub returns-then-room-asked : goal.returns-then-room-asked
 returns-then-room-asked c = room_short c.row_at-asked.ensures c.if-room-asked.true
 
 pub returns : goal.returns
-returns c = may_open (network_kept c.check_network-network.ensures c.if-network-ne-ANSWERED.false) (rows_kept c.check_rows-table.ensures c.if-table-ne-ANSWERED.false) c.if-tails-shortcut_tails.false c.row_at-asked.ensures c.if-room-asked.false
+returns c = may_open (network_kept c.check_network-network.ensures (omega arith)) (rows_kept c.check_rows-table.ensures (omega arith)) c.if-tails-shortcut_tails.false c.row_at-asked.ensures c.if-room-asked.false

@@ -22,7 +22,7 @@ pub returns-then-by_rows-ne-ANSWERED : goal.returns-then-by_rows-ne-ANSWERED
 returns-then-by_rows-ne-ANSWERED c = rows_shortcuts c.check_network-by_network.ensures c.if-by_network-eq-SIZES.false c.check_rows-by_rows.ensures c.if-by_rows-eq-SIZES.false (record { wide_enough = c.if-wides-node_modes.false; narrow_enough = c.if-narrows-node_modes.false }) c.if-by_network-ne-ANSWERED.false c.if-by_rows-ne-ANSWERED.true
 
 pub returns-then-by_sheet-ne-ANSWERED : goal.returns-then-by_sheet-ne-ANSWERED
-returns-then-by_sheet-ne-ANSWERED c = rows_sheet c.check_network-by_network.ensures c.if-by_network-eq-SIZES.false c.check_rows-by_rows.ensures c.if-by_rows-eq-SIZES.false (record { wide_enough = c.if-wides-node_modes.false; narrow_enough = c.if-narrows-node_modes.false }) c.if-by_network-ne-ANSWERED.false c.if-by_rows-ne-ANSWERED.false c.check_sheet-by_sheet.ensures c.if-by_sheet-ne-ANSWERED.true
+returns-then-by_sheet-ne-ANSWERED c = rows_sheet c.check_network-by_network.ensures c.if-by_network-eq-SIZES.false c.check_rows-by_rows.ensures c.if-by_rows-eq-SIZES.false (record { wide_enough = c.if-wides-node_modes.false; narrow_enough = c.if-narrows-node_modes.false }) c.if-by_network-ne-ANSWERED.false (omega arith) c.check_sheet-by_sheet.ensures c.if-by_sheet-ne-ANSWERED.true
 
 pub returns : goal.returns
-returns c = rows_question c.check_network-by_network.ensures c.if-by_network-eq-SIZES.false c.check_rows-by_rows.ensures c.if-by_rows-eq-SIZES.false (record { wide_enough = c.if-wides-node_modes.false; narrow_enough = c.if-narrows-node_modes.false }) c.if-by_network-ne-ANSWERED.false c.if-by_rows-ne-ANSWERED.false c.check_sheet-by_sheet.ensures c.if-by_sheet-ne-ANSWERED.false c.check_question.ensures
+returns c = rows_question c.check_network-by_network.ensures c.if-by_network-eq-SIZES.false c.check_rows-by_rows.ensures c.if-by_rows-eq-SIZES.false (record { wide_enough = c.if-wides-node_modes.false; narrow_enough = c.if-narrows-node_modes.false }) c.if-by_network-ne-ANSWERED.false (omega arith) c.check_sheet-by_sheet.ensures c.if-by_sheet-ne-ANSWERED.false c.check_question.ensures
