@@ -113,8 +113,8 @@ pub front_edges : {N : Network} → EnoughColumns N → (k m : ℕ) → m ≤ 20
 front_edges {N} n k m h = length-take-le m N.tails (omega (arith, n.tails))
 
 -- a kind that is due is awaited
-in-stage : {kind : ℕ} {s s' : Stage} → s ≡ s' → Memᴰ kind (due s) → Memᴰ kind (due s')
-in-stage {kind} e m = subst (λ (x : Stage). Memᴰ kind (due x)) e m
+in_stage : {kind : ℕ} {s s' : Stage} → s ≡ s' → Memᴰ kind (due s) → Memᴰ kind (due s')
+in_stage {kind} e m = subst (λ (x : Stage). Memᴰ kind (due x)) e m
 
 either : (kind a b : ℕ) → Memᴰ kind (a ∷ b ∷ []) → (kind ≡ a) ⊎ (kind ≡ b)
 either kind a b m = go (Memᴰ.cases_cons m)
@@ -128,24 +128,24 @@ awaits_by x y e f h = subst₂ (λ a b. awaits a b ≡ true) (sym e) (sym f) h
 
 pub due_awaited : {L : Lent} {c : Core} {s : Stage} → Enough L → At L c s → (kind : ℕ) → Memᴰ kind (due s) → awaits c.stage kind ≡ true
 unfolding awaits
-due_awaited n (at_start e f) kind m = awaits_by 0 1 e (Memᴰ.eq_of_singleton (in-stage f m)) refl
+due_awaited n (at_start e f) kind m = awaits_by 0 1 e (Memᴰ.eq_of_singleton (in_stage f m)) refl
 due_awaited {L} {c} n (at_nodes e d f) kind m =
     let few : nodes (front_network c.entered 0 L.network) < c.nodes =
     omega (arith, front_nodes n.columns c.entered 0 (omega (arith, d.more, d.fine.few_nodes)), d.more) in
     awaits_by 1 2 e
-    (Memᴰ.eq_of_singleton (subst (λ (b : Bool). Memᴰ kind (cond b 2 3 ∷ [])) (lt-ltb _ _ few) (in-stage f m))) refl
+    (Memᴰ.eq_of_singleton (subst (λ (b : Bool). Memᴰ kind (cond b 2 3 ∷ [])) (lt-ltb _ _ few) (in_stage f m))) refl
 due_awaited {L} {c} n (at_edges e d f) kind m =
     let all : c.nodes ≤ nodes (front_network c.nodes c.entered L.network) =
     omega (arith, front_nodes n.columns c.nodes c.entered d.fine.few_nodes) in
     awaits_by 2 3 e
-    (Memᴰ.eq_of_singleton (subst (λ (b : Bool). Memᴰ kind (cond b 2 3 ∷ [])) (le-ltb _ _ all) (in-stage f m))) refl
-due_awaited {c = c} n (at_ready e d f) kind m = go (either kind 6 0 (in-stage f m))
+    (Memᴰ.eq_of_singleton (subst (λ (b : Bool). Memᴰ kind (cond b 2 3 ∷ [])) (le-ltb _ _ all) (in_stage f m))) refl
+due_awaited {c = c} n (at_ready e d f) kind m = go (either kind 6 0 (in_stage f m))
   where
     go : (kind ≡ 6) ⊎ (kind ≡ 0) → awaits c.stage kind ≡ true
     go (inl k) = awaits_by 3 6 e k refl
     go (inr k) = awaits_by 3 0 e k refl
-due_awaited n (at_states e d g f) kind m = awaits_by 4 4 e (Memᴰ.eq_of_singleton (in-stage f m)) refl
-due_awaited {c = c} n (at_asking e d g f) kind m = go (Memᴰ.cases_cons (in-stage f m))
+due_awaited n (at_states e d g f) kind m = awaits_by 4 4 e (Memᴰ.eq_of_singleton (in_stage f m)) refl
+due_awaited {c = c} n (at_asking e d g f) kind m = go (Memᴰ.cases_cons (in_stage f m))
   where
     last : (kind ≡ 5) ⊎ (kind ≡ 0) → awaits c.stage kind ≡ true
     last (inl k) = awaits_by 5 5 e k refl
@@ -154,7 +154,7 @@ due_awaited {c = c} n (at_asking e d g f) kind m = go (Memᴰ.cases_cons (in-sta
     go : (kind ≡ 6) ⊎ Memᴰ kind (5 ∷ 0 ∷ []) → awaits c.stage kind ≡ true
     go (inl k) = awaits_by 5 6 e k refl
     go (inr t) = last (either kind 5 0 t)
-due_awaited n (at_end e f) kind m = absurd (Memᴰ.not-nil (in-stage f m))
+due_awaited n (at_end e f) kind m = absurd (Memᴰ.not-nil (in_stage f m))
 
 -- what a kind that is awaited is
 awaited_at : {stage : ℕ} (kind x : ℕ) → stage ≡ x → awaits stage kind ≡ true → awaits x kind ≡ true

@@ -251,8 +251,8 @@ module _ {n m off : ℕ} {N₀ : Network} {full : List ℕ} {q : Reader} {L : Le
       }
 
 -- a reader that has counted to the last record
-in-by : {p r : Reader} → p ≡ r → r.stage ≡ 2 → r.edges ≤ r.entered → NetworkIn p
-in-by e a b = subst NetworkIn (sym e) (record { no_node_due = a; no_edge_due = b })
+in_by : {p r : Reader} → p ≡ r → r.stage ≡ 2 → r.edges ≤ r.entered → NetworkIn p
+in_by e a b = subst NetworkIn (sym e) (record { no_node_due = a; no_edge_due = b })
 
 -- the stage in which a node is due
 abbrev pub nodes_at : Reader → Lent → Stage
@@ -330,7 +330,7 @@ module _ {off : ℕ} {full : List ℕ} {q : Reader} {L : Lent} (F : Full (nodes_
           (ap₂ (λ i (N : Network). building q.nodes q.edges (front_network i 0 N)) all_in (sym (eN ∙ node_goes))))
           (subst EnoughColumns (sym (eN ∙ node_goes)) node_columns) refl refl refl refl eT ej ew en el)
       last h (yes g) (closes i eN c) = absurd (omega (arith, (subst NetworkIn (no_more_nodes h) i).no_edge_due, g))
-      last h (no g) (more_due n eN eT ew en er el) = absurd (n (in-by (no_more_nodes h) refl (omega (arith, g))))
+      last h (no g) (more_due n eN eT ew en er el) = absurd (n (in_by (no_more_nodes h) refl (omega (arith, g))))
       last h (no g) (closes i eN c) =
           let all_in : suc q.entered ≡ q.nodes = omega (arith, h, d.more) in
           let no_edge : 0 ≡ q.edges = omega (arith, g) in
@@ -428,7 +428,7 @@ module _ {off : ℕ} {full : List ℕ} {q : Reader} {L : Lent} (F : Full (edges_
           (ap₂ (λ i (N : Network). building q.nodes q.edges (front_network q.nodes i N)) (sym edge_one) (sym (eN ∙ edge_goes))))
           (subst EnoughColumns (sym (eN ∙ edge_goes)) edge_columns) refl refl refl refl eT ej ew en el)
       go (yes h) (closes i eN c) = absurd (omega (arith, (subst NetworkIn edge_counts i).no_edge_due, h, edge_one))
-      go (no h) (more_due n eN eT ew en er el) = absurd (n (in-by edge_counts refl (omega (arith, h, edge_one))))
+      go (no h) (more_due n eN eT ew en er el) = absurd (n (in_by edge_counts refl (omega (arith, h, edge_one))))
       go (no h) (closes i eN c) =
           let all_in : suc q.entered ≡ q.edges = omega (arith, h, d.more) in
           close_acts L' (edge_at q) F edge_same d.fine

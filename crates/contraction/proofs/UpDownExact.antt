@@ -156,8 +156,8 @@ Left N vs x = (x < nodes N) × (Gone N vs x → ⊥)
 -- From a walk over the rows that stand to an up-down way over the last table.
 module _ {N : Network} {last : List Row} (s : Sound N) (S : Sheet) where
   -- a row that stands is a row of the last table
-  in-last : {ss : List Row} {G : ℕ → Type 0} {p r : At} {a : Weight} → Front ss last → Go S (Stands N ss G) p r a → Go S (Stands N last G) p r a
-  in-last {ss} {G} {p} {r} {a} f (m, e, y) = (
+  in_last : {ss : List Row} {G : ℕ → Type 0} {p r : At} {a : Weight} → Front ss last → Go S (Stands N ss G) p r a → Go S (Stands N last G) p r a
+  in_last {ss} {G} {p} {r} {a} f (m, e, y) = (
     m,
     subst (λ l. Stands N l G p.0 r.0 m a) (sym f.behind) (stands_more f.rest G e e.tail_left e.head_left),
     y,
@@ -166,7 +166,7 @@ module _ {N : Network} {last : List Row} (s : Sound N) (S : Sheet) where
   core_light : {ss : List Row} {p r : At} {c : Weight} → Front ss last → Walk (Go S (Stands N ss (Gone N []))) p r c → Light N last S p r c
   core_light f (Walk.stay e) = light_stay e
   core_light f (Walk.step (m, e, y) w k) =
-      light_cons (in-last f (m, e, y)) (λ b. e.tail_left (λ u. e.head_left (λ x. core_level x u b))) (core_light f w) k
+      light_cons (in_last f (m, e, y)) (λ b. e.tail_left (λ u. e.head_left (λ x. core_level x u b))) (core_light f w) k
 
   module _ {ss new : List Row} (v : ℕ) (vs : List ℕ) (T : Stage N (v ∷ vs) ss) (A : Adds N ss v new) (f : Front ss last)
       (IH : (p r : At) (c : Weight) → Left N vs p.0 → Left N vs r.0 → Walk (Go S (Stands N (ss ++ new) (Gone N vs))) p r c
@@ -186,7 +186,7 @@ module _ {N : Network} {last : List Row} (s : Sound N) (S : Sheet) where
     start p r c lp lr rv (yes e) (Walk.step {x = y} {b = b} (m, h, mv) w k) none =
         let d = stands_fine s T.sound h in
         neither y r b (d.head_node, h.head_left) lr (λ g. d.apart (e ∙ sym g)) rv w
-        (λ l. none (light_cons (in-last f (m, h, mv)) (λ z. h.head_left (subst (Before N.node_ranks y.0) e z)) l k))
+        (λ l. none (light_cons (in_last f (m, h, mv)) (λ z. h.head_left (subst (Before N.node_ranks y.0) e z)) l k))
 
     finish : (p r : At) (c : Weight) → Left N (v ∷ vs) p.0 → Left N (v ∷ vs) r.0 → Dec (r.0 ≡ v)
         → Walk (Go S (AtTurn N ss v)) p r c → (Light N last S p r c → ⊥) → ⊥
@@ -198,7 +198,7 @@ module _ {N : Network} {last : List Row} (s : Sound N) (S : Sheet) where
         go (inr (y, a, b, w', (m, h, mv), k)) =
             let d = stands_fine s T.sound h in
             start p y a lp (d.tail_node, h.tail_left) (λ g. d.apart (g ∙ sym e)) (ℕ_discrete p.0 v) w'
-            (λ l. none (light_snoc l (in-last f (m, h, mv)) (λ z. h.tail_left (subst (Before N.node_ranks y.0) e z)) k))
+            (λ l. none (light_snoc l (in_last f (m, h, mv)) (λ z. h.tail_left (subst (Before N.node_ranks y.0) e z)) k))
 
   climb : (vs : List ℕ) (ss : List Row) → Stage N vs ss → Contracts N vs ss last → (p r : At) (c : Weight) → Left N vs p.0 → Left N vs r.0
       → Walk (Go S (Stands N ss (Gone N vs))) p r c → (Light N last S p r c → ⊥) → ⊥

@@ -165,11 +165,11 @@ module _ {N : Network} {ss : List Row} {S : Sheet} where
     codes_length (change l a b m c k w) = omega (arith, codes_length w)
 
     module _ (sheet : Counted S) where
-      in-states : {u q v j : ℕ} {rs : List ℕ} (w : Way N ss S u q v j rs) → q < 8 → InStates (stops w)
+      in_states : {u q v j : ℕ} {rs : List ℕ} (w : Way N ss S u q v j rs) → q < 8 → InStates (stops w)
       unfolding stops InStates
-      in-states (stay a b) q8 = (q8, tt)
-      in-states (ride l a b m c w) q8 = (q8, in-states w q8)
-      in-states (change l a b m c k w) q8 = (q8, in-states w (omega (arith, sheet.few_states)))
+      in_states (stay a b) q8 = (q8, tt)
+      in_states (ride l a b m c w) q8 = (q8, in_states w q8)
+      in_states (change l a b m c k w) q8 = (q8, in_states w (omega (arith, sheet.few_states)))
 
       codes_below : {u q v j : ℕ} {rs : List ℕ} (w : Way N ss S u q v j rs) → q < 8 → u < nodes N → AllBelow (8 * nodes N) (codes (stops w))
       unfolding stops codes code
@@ -181,7 +181,7 @@ module _ {N : Network} {ss : List Row} {S : Sheet} where
       -- a way that repeats no stop has fewer rows than there are stops
       pub unrepeated_short : {u q v j : ℕ} {rs : List ℕ} (w : Way N ss S u q v j rs) → q < 8 → u < nodes N → Unrepeated (stops w) → length rs < 8 * nodes N
       unrepeated_short w q8 l d =
-          omega (arith, codes_length w, pigeonhole (8 * nodes N) (codes (stops w)) (codes_below w q8 l) (codes_distinct (stops w) (in-states w q8) d))
+          omega (arith, codes_length w, pigeonhole (8 * nodes N) (codes (stops w)) (codes_below w q8 l) (codes_distinct (stops w) (in_states w q8) d))
 
 -- a way from beyond the nodes goes nowhere
 beyond_short : {N : Network} {ss : List Row} {S : Sheet} {u q v j : ℕ} {rs : List ℕ} → Sound N → SoundTable N ss → nodes N ≤ u

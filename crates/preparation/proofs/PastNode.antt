@@ -34,7 +34,7 @@ module _ (E E' : ℕ → ℕ → Weight → Type 0) (v : ℕ) (timed : (u x : �
 
   module _ (c : Weight) (lower : (d : Weight) → Lighter d c → Kept d) where
     pair : (u y : ℕ) (a b : Weight) → (u ≡ v → ⊥) → (y ≡ v → ⊥) → (u ≡ y → ⊥) → E u v a → E v y b → a ⊕ b ≼ c → (Walk E' u y (a ⊕ b) → ⊥) → ⊥
-    pair u y a b uv yv n e f h no_Walk =
+    pair u y a b uv yv n e f h no_walk =
         add u y (a ⊕ b)
         (record {
           apart = n;
@@ -43,14 +43,14 @@ module _ (E E' : ℕ → ℕ → Weight → Type 0) (v : ℕ) (timed : (u x : �
           into_edge = e;
           out_edge = f;
           sum = refl;
-          least = λ d r l. lower d (lighter-≼-trans l h) u y uv yv r (λ q. no_Walk (weaken q (lighter-≼ l)));
-          alone = λ d r l. no_Walk (weaken (map_walk keep r) l);
+          least = λ d r l. lower d (lighter-≼-trans l h) u y uv yv r (λ q. no_walk (weaken q (lighter-≼ l)));
+          alone = λ d r l. no_walk (weaken (map_walk keep r) l);
         })
-        (λ g. no_Walk (single g))
+        (λ g. no_walk (single g))
 
     through : (u w : ℕ) (a b : Weight) → (u ≡ v → ⊥) → (w ≡ v → ⊥) → E u v a → Walk E v w b → a ⊕ b ≼ c → (Walk E' u w c → ⊥) → ⊥
-    through u w a b uv wv e (stay f) h no_Walk = wv (sym f)
-    through u w a b uv wv e (step {x = y} {a = a'} {b = b'} f p k) h no_Walk =
+    through u w a b uv wv e (stay f) h no_walk = wv (sym f)
+    through u w a b uv wv e (step {x = y} {a = a'} {b = b'} f p k) h no_walk =
         lower b' (rest_lighter a b' (timed u v a e) (≼-behind a (≼_trans (≼-more a' b') k) h)) y w yv wv p (λ q. go q (ℕ_discrete u y))
       where
         yv : y ≡ v → ⊥
@@ -60,16 +60,16 @@ module _ (E E' : ℕ → ℕ → Weight → Type 0) (v : ℕ) (timed : (u x : �
         all = rw ⊕-assoc (≼-behind a k h)
 
         go : Walk E' y w b' → Dec (u ≡ y) → ⊥
-        go q (yes g) = no_Walk (weaken (from g q) (≼_trans (≼-more (a ⊕ a') b') all))
-        go q (no n) = pair u y a a' uv yv n e f (≼_trans (≼-less (a ⊕ a') b') all) (λ r. no_Walk (join r q all))
+        go q (yes g) = no_walk (weaken (from g q) (≼_trans (≼-more (a ⊕ a') b') all))
+        go q (no n) = pair u y a a' uv yv n e f (≼_trans (≼-less (a ⊕ a') b') all) (λ r. no_walk (join r q all))
 
     kept_at : Kept c
-    kept_at u w uv wv (stay e) no_Walk = no_Walk (stay e)
-    kept_at u w uv wv (step {x = x} {a = a} {b = b} e p k) no_Walk = go (ℕ_discrete x v)
+    kept_at u w uv wv (stay e) no_walk = no_walk (stay e)
+    kept_at u w uv wv (step {x = x} {a = a} {b = b} e p k) no_walk = go (ℕ_discrete x v)
       where
         go : Dec (x ≡ v) → ⊥
-        go (yes f) = through u w a b uv wv (subst (λ z. E u z a) f e) (from (sym f) p) k no_Walk
-        go (no n) = lower b (rest_lighter a b (timed u x a e) k) x w n wv p (λ q. no_Walk (step (keep u x a (e, uv, n)) q k))
+        go (yes f) = through u w a b uv wv (subst (λ z. E u z a) f e) (from (sym f) p) k no_walk
+        go (no n) = lower b (rest_lighter a b (timed u x a e) k) x w n wv p (λ q. no_walk (step (keep u x a (e, uv, n)) q k))
 
   pub kept : (c : Weight) → Kept c
   kept = by_lighter Kept kept_at

@@ -21,6 +21,7 @@ use network::table::even_rows;
 const MOST_ROWS: usize = 4096;
 
 // The shortcuts from u in v's turn: the test reads the first `stood` rows, what is called for goes behind the first `at`.
+#[tactic(auto, using(crate::proofs::Turning::skip_from))]
 fn contract_from(
     node_modes: &[u8],
     node_ranks: &[u16],

@@ -53,12 +53,12 @@ module _ {S : Sheet} {mode q base : ℕ} {new : Weight} {r low : ℕ} {wide narr
         there = t.to_state.there;
       }
 
-      in-next : (i : ℕ) {v : ℕ} → Shift S mode q i → v ≡ base + 2 * i → ToStates base (entry S q).next S.states v
-      in-next i (riding n may e) t = absurd (n z)
-      in-next i (changing e may k) t = record { state = i; known = k; to_state = record { has = may; there = t } }
+      in_next : (i : ℕ) {v : ℕ} → Shift S mode q i → v ≡ base + 2 * i → ToStates base (entry S q).next S.states v
+      in_next i (riding n may e) t = absurd (n z)
+      in_next i (changing e may k) t = record { state = i; known = k; to_state = record { has = may; there = t } }
 
       from : (v : ℕ) → Arrives S mode q base v → ToStates base (entry S q).next S.states v
-      from v a = in-next a.state a.shift a.there
+      from v a = in_next a.state a.shift a.there
 
   pub ride_arrives : q < 8 → (mode ≡ 0 → ⊥) → MayRide S q mode → Offered (λ v. v ≡ base + 2 * q) 8192 new r low wide narrow wide' narrow'
       → Offered (Arrives S mode q base) 8192 new r low wide narrow wide' narrow'
@@ -70,8 +70,8 @@ module _ {S : Sheet} {mode q base : ℕ} {new : Weight} {r low : ℕ} {wide narr
 
 pub none_arrives : {S : Sheet} {mode q base : ℕ} {new : Weight} {r low : ℕ} {wide narrow : List ℕ} → (mode ≡ 0 → ⊥) → (MayRide S q mode → ⊥)
     → Offered (Arrives S mode q base) 8192 new r low wide narrow wide narrow
-none_arrives {S} {mode} {q} n no-ride = offer_none (λ v a. never a.state a.shift)
+none_arrives {S} {mode} {q} n no_ride = offer_none (λ v a. never a.state a.shift)
   where
     never : (i : ℕ) → Shift S mode q i → ⊥
-    never i (riding m k e) = no-ride k
+    never i (riding m k e) = no_ride k
     never i (changing z k l) = n z

@@ -1,4 +1,5 @@
 -- `card::telling::next_stage` goes on after 0, 6 and 7. Assumes nothing.
+use native.Mathlib.Omega.{arith}
 use borrow.Author.Tests.{eq-eqb, ne_eqb}
 use Rattle.card.specs.Reading.{stage_after}
 use Rattle.card.proofs.telling.next_stage.Goals as goal
@@ -17,4 +18,4 @@ returns-then-number-eq-NO_JOURNEY c = simp (ne_eqb _ _ c.if-number-eq-ANSWERED.f
 
 pub returns : goal.returns
 unfolding stage_after
-returns c = simp (ne_eqb _ _ c.if-number-eq-ANSWERED.false, ne_eqb _ _ c.if-number-eq-QUESTION.false, ne_eqb _ _ c.if-number-eq-NO_JOURNEY.false)
+returns c = simp (ne_eqb _ _ c.if-number-eq-ANSWERED.false, ne_eqb _ _ c.if-number-eq-QUESTION.false, ne_eqb c.args.number 7 (omega arith))

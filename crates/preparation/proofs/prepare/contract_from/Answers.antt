@@ -1,10 +1,7 @@
 -- `preparation::prepare::contract_from` adds the shortcuts from one node. Rests on `Turning`.
 use Rattle.network.specs.Rows.{columns}
-use Rattle.preparation.proofs.Turning.{skip_from, tested_from, tested_front}
+use Rattle.preparation.proofs.Turning.{tested_from, tested_front}
 use Rattle.preparation.proofs.prepare.contract_from.Goals as goal
-
-pub returns-then-at32-eq-NO_ROW : goal.returns-then-at32-eq-NO_ROW
-returns-then-at32-eq-NO_ROW c = skip_from _ _ _ _ _ _ _ _ _ c.requires.in_turn.sound_table c.requires.even.0 c.requires.even.3 c.requires.even.1 c.requires.neighbours (rw c.at32.ensures at c.if-at32-eq-NO_ROW.true)
 
 pub returns : goal.returns
 returns c =
