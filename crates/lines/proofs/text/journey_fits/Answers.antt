@@ -8,7 +8,7 @@ use Rattle.lines.proofs.text.journey_fits.Goals as goal
 pub returns-then-legs-room : goal.returns-then-legs-room
 returns-then-legs-room c =
     let legs = c.args.legs.now in
-    let legs_small : (i : ℕ) → i < length legs → get_or legs i 0 < 65536 = λ i h. omega (arith, c.shared_slice_known-1.given i) in
+    let legs_small : (i : ℕ) → i < length legs → get_or legs i 0 < 65536 = λ i h. omega (arith, c.type_inv.legs i) in
     omega (
       arith,
       journey_most c.args.seconds c.args.count legs (omega arith) (omega arith) legs_small,

@@ -24,13 +24,13 @@ pub returns-else-p-eq0 : goal.returns-else-p-eq0
 returns-else-p-eq0 c = attempt_stuck _ _ _ _ _ c.args.to c.args.p c.args.w c.args.r _ c.requires.ready c.requires.r_bound.0 c.requires.r_bound.1 c.row_at-row.ensures c.tail_at.ensures c.if-tail_at-p.false (decided_false c.descends.ensures c.if-descends.false) c.if-p-eq0.false c.requires.hinted
 
 pub arrive-requires-clause-states_bound : goal.arrive-requires-clause-states_bound
-arrive-requires-clause-states_bound c = omega (arith, c.requires.ready.sheet.counted.few_states, mode_known c.requires.ready c.args.r c.requires.r_bound.0 c.row_at-row.ensures, head_in c.requires.ready c.args.r c.requires.r_bound.0 c.row_at-row.ensures, c.requires.ready.table_sound.sound.sized.few_nodes, c.requires.ready.table_sound.sound_table.few, c.requires.r_bound.0, c.requires.ready.roomy.wide_enough, c.requires.ready.roomy.narrow_enough, c.homeward.ensures.same_labels.size)
+arrive-requires-clause-states_bound c = omega (arith, c.requires.ready.sheet.counted.few_states, mode_known c.requires.ready c.args.r c.requires.r_bound.0 c.row_at-row.ensures)
 
 pub arrive-requires-clause-base_bound : goal.arrive-requires-clause-base_bound
-arrive-requires-clause-base_bound c = omega (arith, c.requires.ready.sheet.counted.few_states, mode_known c.requires.ready c.args.r c.requires.r_bound.0 c.row_at-row.ensures, head_in c.requires.ready c.args.r c.requires.r_bound.0 c.row_at-row.ensures, c.requires.ready.table_sound.sound.sized.few_nodes, c.requires.ready.table_sound.sound_table.few, c.requires.r_bound.0, c.requires.ready.roomy.wide_enough, c.requires.ready.roomy.narrow_enough, c.homeward.ensures.same_labels.size)
+arrive-requires-clause-base_bound c = omega (arith, head_in c.requires.ready c.args.r c.requires.r_bound.0 c.row_at-row.ensures, c.requires.ready.table_sound.sound.sized.few_nodes, c.requires.ready.table_sound.sound_table.few, c.requires.r_bound.0, c.requires.ready.roomy.wide_enough, c.requires.ready.roomy.narrow_enough, c.homeward.ensures.same_labels.size)
 
 pub arrive-requires-then-p-eq0-clause-states_bound : goal.arrive-requires-then-p-eq0-clause-states_bound
-arrive-requires-then-p-eq0-clause-states_bound c = omega (arith, c.requires.ready.sheet.counted.few_states, mode_known c.requires.ready c.args.r c.requires.r_bound.0 c.row_at-row.ensures, head_in c.requires.ready c.args.r c.requires.r_bound.0 c.row_at-row.ensures, c.requires.ready.table_sound.sound.sized.few_nodes, c.requires.ready.table_sound.sound_table.few, c.requires.r_bound.0, c.requires.ready.roomy.wide_enough, c.requires.ready.roomy.narrow_enough)
+arrive-requires-then-p-eq0-clause-states_bound c = omega (arith, c.requires.ready.sheet.counted.few_states, mode_known c.requires.ready c.args.r c.requires.r_bound.0 c.row_at-row.ensures)
 
 pub arrive-requires-then-p-eq0-clause-base_bound : goal.arrive-requires-then-p-eq0-clause-base_bound
-arrive-requires-then-p-eq0-clause-base_bound c = omega (arith, c.requires.ready.sheet.counted.few_states, mode_known c.requires.ready c.args.r c.requires.r_bound.0 c.row_at-row.ensures, head_in c.requires.ready c.args.r c.requires.r_bound.0 c.row_at-row.ensures, c.requires.ready.table_sound.sound.sized.few_nodes, c.requires.ready.table_sound.sound_table.few, c.requires.r_bound.0, c.requires.ready.roomy.wide_enough, c.requires.ready.roomy.narrow_enough)
+arrive-requires-then-p-eq0-clause-base_bound c = omega (arith, head_in c.requires.ready c.args.r c.requires.r_bound.0 c.row_at-row.ensures, c.requires.ready.table_sound.sound.sized.few_nodes, c.requires.ready.table_sound.sound_table.few, c.requires.r_bound.0, c.requires.ready.roomy.wide_enough, c.requires.ready.roomy.narrow_enough)

@@ -7,4 +7,4 @@ use Rattle.search.proofs.WitnessGraph.{narrow, found}
 use Rattle.search.proofs.witness.witness.Goals as goal
 
 pub returns-then-fits : goal.returns-then-fits
-returns-then-fits c = searched (decided_true c.fits.ensures c.if-fits.true) refl (found (decided_true c.fits.ensures c.if-fits.true) (narrow _ (λ i. omega (arith, c.shared_slice_known-5-1.given i)) (λ i. omega (arith, c.shared_slice_known-9-1.given i)) (λ i. omega (arith, c.shared_slice_known-10-1.given i))) c.spread.ensures c.close.ensures)
+returns-then-fits c = searched (decided_true c.fits.ensures c.if-fits.true) refl (found (decided_true c.fits.ensures c.if-fits.true) (narrow _ (λ i. omega (arith, c.type_inv.lengths i)) (λ i. omega (arith, c.type_inv.shortcut_lengths i)) (λ i. omega (arith, c.type_inv.shortcut_counts i))) c.spread.ensures c.close.ensures)
