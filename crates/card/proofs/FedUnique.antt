@@ -1,23 +1,27 @@
 -- Two results that the promises of the reader allow for one input are equal, but for which of several least journeys is written and told.
-use mathlib.Core.Path.{◌≡◌, sym, ◌∙◌, ap, subst}
+use mathlib.Core.Path.{◌≡◌, sym, ◌∙◌, ap, ap₂, subst}
 use mathlib.Core.List.{List}
 use Prim.Native.Nat.{ℕ}
 use native.Mathlib.Omega.{arith}
 use native.Mathlib.Decide.{ℕ_discrete}
 use lib.ListN.{length, take, drop}
 use Rattle.network.specs.declared.answer.Answer.{Answer}
-use Rattle.network.specs.Network.{Network}
-use Rattle.network.specs.Rows.{Columns}
-use Rattle.network.specs.Sheet.{sheet_of}
-use Rattle.network.proofs.Unique.{sheet_unique}
+use Rattle.network.specs.Refusal.{sheet_order}
+use Rattle.network.specs.Answers.{shown}
+use Rattle.network.proofs.Unique.{Singles, sheet_single, refused_unique, refused_passed}
 use Rattle.search.specs.Answers.{legs_of}
 use Rattle.search.proofs.SearchUnique.{Determined}
 use Rattle.preparation.proofs.PrepareUnique.{prepare_unique}
 use Rattle.legs.proofs.ContractedUnique.{contracted_unique}
+use Rattle.records.specs.declared.reader.Kind.{Kind}
+use Rattle.records.specs.declared.reader.Kind.TheVariants as kind
+use Rattle.records.specs.declared.reader.Stage.{Stage}
+use Rattle.records.specs.declared.reader.Stage.TheVariants.{Asking}
 use Rattle.records.specs.declared.reader.Reader.{Reader}
+use Rattle.records.proofs.KindLaws.{kind_unique}
 use Rattle.lines.specs.Text.{line_of}
-use Rattle.records.specs.Reader.{holding, done}
-use Rattle.card.specs.Reading.{Lent, Told, Refusing, HeadTaken, SheetTaken, states_with, StateTaken, SimplyTaken, a_head, a_sheet, a_state, the_end, unknown, readied, counted, Closed, NetworkTaken, stage_after, Asked, Taken, of_network, question, other, Fed, Finished}
+use Rattle.records.specs.Reader.{holding, done, size_of}
+use Rattle.card.specs.Reading.{Lent, Told, Refusing, HeadTaken, SheetTaken, sheet_with, StateTaken, readied, Closed, NetworkTaken, stage_after, Asked, line_only, Taken, Held, Fed, Finished}
 use Rattle.lines.proofs.Lines.{line_unique}
 
 number_of : {a b : Answer} → a ≡ b → a.number ≡ b.number
@@ -27,7 +31,7 @@ number_of e = ap (λ (x : Answer). x.number) e
 abbrev Both : (r₁ r₂ : Reader) (l₁ l₂ : List ℕ) → Type 0
 Both r₁ r₂ l₁ l₂ = (r₁ ≡ r₂) × (l₁ ≡ l₂)
 
-told_unique : {r r₁ r₂ : Reader} {stage : ℕ} {text line l₁ l₂ : List ℕ} → Told r stage text line r₁ l₁ → Told r stage text line r₂ l₂
+told_unique : {r r₁ r₂ : Reader} {stage : Stage} {text line l₁ l₂ : List ℕ} → Told r stage text line r₁ l₁ → Told r stage text line r₂ l₂
     → Both r₁ r₂ l₁ l₂
 told_unique {r} {stage = stage} t u =
     let q = line_unique t.writes u.writes in
@@ -36,6 +40,9 @@ told_unique {r} {stage = stage} t u =
 refusing_unique : {r r₁ r₂ : Reader} {a b : Answer} {line l₁ l₂ : List ℕ} → a ≡ b → Refusing r a line r₁ l₁ → Refusing r b line r₂ l₂
     → Both r₁ r₂ l₁ l₂
 refusing_unique {r} {r₂ = r₂} {line = line} {l₂ = l₂} e t u = told_unique t (subst (λ (x : Answer). Refusing r x line r₂ l₂) (sym e) u)
+
+single : (r : Reader) → Singles (sheet_order (sheet_with r))
+single r = (sheet_single (sheet_with r), tt)
 
 module _ {r r₁ r₂ : Reader} {line l₁ l₂ : List ℕ} where
   head_unique : {n m : ℕ} → HeadTaken r n m line r₁ l₁ → HeadTaken r n m line r₂ l₂ → Both r₁ r₂ l₁ l₂
@@ -52,176 +59,138 @@ module _ {r r₁ r₂ : Reader} {line l₁ l₂ : List ℕ} where
 
   state_unique : StateTaken r line r₁ l₁ → StateTaken r line r₂ l₂ → Both r₁ r₂ l₁ l₂
   state_unique (StateTaken.more_due h e l) (StateTaken.more_due h' e' l') = (e ∙ sym e', l ∙ sym l')
-  state_unique (StateTaken.more_due h e l) (StateTaken.accepted h' c z e' l') = absurd (omega arith)
-  state_unique (StateTaken.more_due h e l) (StateTaken.refused h' c n t) = absurd (omega arith)
-  state_unique (StateTaken.accepted h c z e l) (StateTaken.more_due h' e' l') = absurd (omega arith)
-  state_unique (StateTaken.accepted h c z e l) (StateTaken.accepted h' c' z' e' l') = (e ∙ sym e', l ∙ sym l')
-  state_unique (StateTaken.accepted h c z e l) (StateTaken.refused h' c' n t) =
-      absurd (n (number_of (sheet_unique (sheet_of (states_with r) r.states) c' c) ∙ z))
-  state_unique (StateTaken.refused h c n t) (StateTaken.more_due h' e' l') = absurd (omega arith)
-  state_unique (StateTaken.refused h c n t) (StateTaken.accepted h' c' z e l) =
-      absurd (n (number_of (sheet_unique (sheet_of (states_with r) r.states) c c') ∙ z))
-  state_unique (StateTaken.refused h c n t) (StateTaken.refused h' c' n' t') =
-      refusing_unique (sheet_unique (sheet_of (states_with r) r.states) c c') t t'
+  state_unique (StateTaken.more_due h e l) (StateTaken.accepted h' p e' l') = absurd (omega arith)
+  state_unique (StateTaken.more_due h e l) (StateTaken.refused h' f t) = absurd (omega arith)
+  state_unique (StateTaken.accepted h p e l) (StateTaken.more_due h' e' l') = absurd (omega arith)
+  state_unique (StateTaken.accepted h p e l) (StateTaken.accepted h' p' e' l') = (e ∙ sym e', l ∙ sym l')
+  state_unique (StateTaken.accepted h p e l) (StateTaken.refused {number = n} {place = k} h' f t) =
+      absurd (refused_passed (sheet_order (sheet_with r)) (single r) n k f p)
+  state_unique (StateTaken.refused h f t) (StateTaken.more_due h' e' l') = absurd (omega arith)
+  state_unique (StateTaken.refused {number = n} {place = k} h f t) (StateTaken.accepted h' p e l) =
+      absurd (refused_passed (sheet_order (sheet_with r)) (single r) n k f p)
+  state_unique (StateTaken.refused {number = n} {place = k} h f t) (StateTaken.refused {number = n'} {place = k'} h' f' t') =
+      let u = refused_unique (sheet_order (sheet_with r)) (single r) n n' k k' f f' in
+      refusing_unique (ap₂ shown u.0 u.1) t t'
 
-  simply_unique : {n m : ℕ} → SimplyTaken r n m line r₁ l₁ → SimplyTaken r n m line r₂ l₂ → Both r₁ r₂ l₁ l₂
-  simply_unique (a_head k t) (a_head k' t') = head_unique t t'
-  simply_unique (a_head k t) (a_sheet k' t') = absurd (omega arith)
-  simply_unique (a_head k t) (a_state k' t') = absurd (omega arith)
-  simply_unique (a_head k t) (the_end k' e l) = absurd (omega arith)
-  simply_unique (a_head k t) (unknown a b c d t') = absurd (a k)
-  simply_unique (a_sheet k t) (a_head k' t') = absurd (omega arith)
-  simply_unique (a_sheet k t) (a_sheet k' t') = sheet_begun_unique t t'
-  simply_unique (a_sheet k t) (a_state k' t') = absurd (omega arith)
-  simply_unique (a_sheet k t) (the_end k' e l) = absurd (omega arith)
-  simply_unique (a_sheet k t) (unknown a b c d t') = absurd (b k)
-  simply_unique (a_state k t) (a_head k' t') = absurd (omega arith)
-  simply_unique (a_state k t) (a_sheet k' t') = absurd (omega arith)
-  simply_unique (a_state k t) (a_state k' t') = state_unique t t'
-  simply_unique (a_state k t) (the_end k' e l) = absurd (omega arith)
-  simply_unique (a_state k t) (unknown a b c d t') = absurd (c k)
-  simply_unique (the_end k e l) (a_head k' t') = absurd (omega arith)
-  simply_unique (the_end k e l) (a_sheet k' t') = absurd (omega arith)
-  simply_unique (the_end k e l) (a_state k' t') = absurd (omega arith)
-  simply_unique (the_end k e l) (the_end k' e' l') = (e ∙ sym e', l ∙ sym l')
-  simply_unique (the_end k e l) (unknown a b c d t') = absurd (d k)
-  simply_unique (unknown a b c d t) (a_head k' t') = absurd (a k')
-  simply_unique (unknown a b c d t) (a_sheet k' t') = absurd (b k')
-  simply_unique (unknown a b c d t) (a_state k' t') = absurd (c k')
-  simply_unique (unknown a b c d t) (the_end k' e l) = absurd (d k')
-  simply_unique (unknown a b c d t) (unknown a' b' c' d' t') = told_unique t t'
+lent-≡ : {L₁ L₂ : Lent} → L₁.network ≡ L₂.network → L₁.shortcuts ≡ L₂.shortcuts → L₁.journey ≡ L₂.journey → L₁.wide ≡ L₂.wide
+    → L₁.narrow ≡ L₂.narrow → L₁.line ≡ L₂.line → L₁ ≡ L₂
+lent-≡ a b c d e f = λ i. record { network = a i; shortcuts = b i; journey = c i; wide = d i; narrow = e i; line = f i }
 
--- what preparation leaves, too
-record Four (T₁ T₂ : Columns) (w₁ w₂ n₁ n₂ : List ℕ) (r₁ r₂ : Reader) (l₁ l₂ : List ℕ) : Type 0 where
-  shortcuts : T₁ ≡ T₂
-  wide : w₁ ≡ w₂
-  narrow : n₁ ≡ n₂
-  both : Both r₁ r₂ l₁ l₂
+-- the reader and all that is lent
+abbrev All : (r₁ r₂ : Reader) (L₁ L₂ : Lent) → Type 0
+All r₁ r₂ L₁ L₂ = (r₁ ≡ r₂) × (L₁ ≡ L₂)
 
-module _ {r : Reader} {N : Network} {T T₁ T₂ : Columns} {wide w₁ w₂ narrow n₁ n₂ line l₁ l₂ : List ℕ} {r₁ r₂ : Reader} where
-  closed_unique : Closed r N T T₁ wide w₁ narrow n₁ line l₁ r₁ → Closed r N T T₂ wide w₂ narrow n₂ line l₂ r₂ → Four T₁ T₂ w₁ w₂ n₁ n₂ r₁ r₂ l₁ l₂
-  closed_unique (Closed.accepted d z e l) (Closed.accepted d' z' e' l') =
-      let q = prepare_unique d d' in
-      record {
-        shortcuts = q.1;
-        wide = q.2;
-        narrow = q.3;
-        both = (e ∙ ap (readied r) (ap (λ (x : Answer). x.count) q.0) ∙ sym e', l ∙ sym l');
-      }
-  closed_unique (Closed.accepted d z e l) (Closed.refused d' n t) = absurd (n (number_of (prepare_unique d' d).0 ∙ z))
-  closed_unique (Closed.refused d n t) (Closed.accepted d' z e l) = absurd (n (number_of (prepare_unique d d').0 ∙ z))
-  closed_unique (Closed.refused d n t) (Closed.refused d' n' t') =
-      let q = prepare_unique d d' in
-      record { shortcuts = q.1; wide = q.2; narrow = q.3; both = refusing_unique q.0 t t' }
+module _ {r : Reader} {L L₁ L₂ : Lent} {r₁ r₂ : Reader} where
+  closed_unique : Closed r L r₁ L₁ → Closed r L r₂ L₂ → All r₁ r₂ L₁ L₂
+  closed_unique (Closed.accepted a p z e l) (Closed.accepted a' p' z' e' l') =
+      let q = prepare_unique p.prepared p'.prepared in (
+        e ∙ ap (readied r) (ap (λ (x : Answer). x.count) q.0) ∙ sym e',
+        lent-≡ (p.network_stands ∙ sym p'.network_stands) q.1 (p.journey_stands ∙ sym p'.journey_stands) q.2 q.3 (l ∙ sym l'),
+      )
+  closed_unique (Closed.accepted a p z e l) (Closed.refused a' p' n t) =
+      absurd (n (number_of (prepare_unique p'.prepared p.prepared).0 ∙ z))
+  closed_unique (Closed.refused a p n t) (Closed.accepted a' p' z e l) =
+      absurd (n (number_of (prepare_unique p.prepared p'.prepared).0 ∙ z))
+  closed_unique (Closed.refused a p n t) (Closed.refused a' p' n' t') =
+      let q = prepare_unique p.prepared p'.prepared in
+      let b : Both r₁ r₂ L₁.line L₂.line = refusing_unique q.0 t t' in
+      (b.0, lent-≡ (p.network_stands ∙ sym p'.network_stands) q.1 (p.journey_stands ∙ sym p'.journey_stands) q.2 q.3 b.1)
 
-module _ {r : Reader} {N N₁ N₂ : Network} {T T₁ T₂ : Columns} {wide w₁ w₂ narrow n₁ n₂ line l₁ l₂ : List ℕ} {r₁ r₂ : Reader} where
-  network_unique : NetworkTaken r N N₁ T T₁ wide w₁ narrow n₁ line l₁ r₁ → NetworkTaken r N N₂ T T₂ wide w₂ narrow n₂ line l₂ r₂
-      → (N₁ ≡ N₂) × Four T₁ T₂ w₁ w₂ n₁ n₂ r₁ r₂ l₁ l₂
-  network_unique (NetworkTaken.more_due n eN eT ew en er el) (NetworkTaken.more_due n' eN' eT' ew' en' er' el') = (
-    eN ∙ sym eN',
-    record { shortcuts = eT ∙ sym eT'; wide = ew ∙ sym ew'; narrow = en ∙ sym en'; both = (er ∙ sym er', el ∙ sym el') },
-  )
-  network_unique (NetworkTaken.more_due n eN eT ew en er el) (NetworkTaken.closes i eN' c) = absurd (n i)
-  network_unique (NetworkTaken.closes i eN c) (NetworkTaken.more_due n eN' eT ew en er el) = absurd (n i)
-  network_unique (NetworkTaken.closes i eN c) (NetworkTaken.closes i' eN' c') = (
-    eN ∙ sym eN',
-    closed_unique c (subst (λ (M : Network). Closed (counted r) M T T₂ wide w₂ narrow n₂ line l₂ r₂) (eN' ∙ sym eN) c'),
-  )
+  network_unique : NetworkTaken r L r₁ L₁ → NetworkTaken r L r₂ L₂ → All r₁ r₂ L₁ L₂
+  network_unique (NetworkTaken.more_due n e l) (NetworkTaken.more_due n' e' l') = (e ∙ sym e', l ∙ sym l')
+  network_unique (NetworkTaken.more_due n e l) (NetworkTaken.closes i c) = absurd (n i)
+  network_unique (NetworkTaken.closes i c) (NetworkTaken.more_due n e l) = absurd (n i)
+  network_unique (NetworkTaken.closes i c) (NetworkTaken.closes i' c') = closed_unique c c'
 
 -- Two results of one byte, where the record at hand is then q: equal, or two journeys of the same answer a.
 pub data Alike (q : Reader) (line : List ℕ) (r₁ : Reader) (L₁ : Lent) (r₂ : Reader) (L₂ : Lent) : Type 0 where
   same : r₁ ≡ r₂ → L₁ ≡ L₂ → Alike q line r₁ L₁ r₂ L₂
   another_journey : (a : Answer) → a.number ≡ 0 → L₁.network ≡ L₂.network → L₁.shortcuts ≡ L₂.shortcuts → L₁.wide ≡ L₂.wide
       → L₁.narrow ≡ L₂.narrow → length L₁.journey ≡ length L₂.journey → drop a.count L₁.journey ≡ drop a.count L₂.journey
-      → Told q 5 (line_of a (take a.count L₁.journey)) line r₁ L₁.line
-      → Told q 5 (line_of a (take a.count L₂.journey)) line r₂ L₂.line → Alike q line r₁ L₁ r₂ L₂
+      → Told q Asking (line_of a (take a.count L₁.journey)) line r₁ L₁.line
+      → Told q Asking (line_of a (take a.count L₂.journey)) line r₂ L₂.line → Alike q line r₁ L₁ r₂ L₂
 
-lent-≡ : {L₁ L₂ : Lent} → L₁.network ≡ L₂.network → L₁.shortcuts ≡ L₂.shortcuts → L₁.journey ≡ L₂.journey → L₁.wide ≡ L₂.wide
-    → L₁.narrow ≡ L₂.narrow → L₁.line ≡ L₂.line → L₁ ≡ L₂
-lent-≡ a b c d e f = λ i. record { network = a i; shortcuts = b i; journey = c i; wide = d i; narrow = e i; line = f i }
+alike : {q r₁ r₂ : Reader} {line : List ℕ} {L₁ L₂ : Lent} → All r₁ r₂ L₁ L₂ → Alike q line r₁ L₁ r₂ L₂
+alike a = same a.0 a.1
 
 module _ {q : Reader} {L L₁ L₂ : Lent} {r₁ r₂ : Reader} where
-  asked_unique : Asked q L.network L.shortcuts L.journey L₁.journey L.wide L₁.wide L.narrow L₁.narrow L.line L₁.line r₁
-      → Asked q L.network L.shortcuts L.journey L₂.journey L.wide L₂.wide L.narrow L₂.narrow L.line L₂.line r₂
-      → L₁.network ≡ L₂.network → L₁.shortcuts ≡ L₂.shortcuts → Alike q L.line r₁ L₁ r₂ L₂
-  unfolding stage_after
-  asked_unique s t eN eT = go (ℕ_discrete s.answer.number 0)
+  asked_unique : Asked q L r₁ L₁ → Asked q L r₂ L₂ → Alike q L.line r₁ L₁ r₂ L₂
+  asked_unique s t = go (ℕ_discrete s.answered.answer.number 0)
     where
-      d : Determined s.answer t.answer L₁.journey L₂.journey L₁.wide L₂.wide L₁.narrow L₂.narrow (legs_of s.answer)
-          (legs_of t.answer)
-      d = contracted_unique s.answers t.answers
+      a : Answer
+      a = s.answered.answer
+
+      d : Determined a t.answered.answer L₁.journey L₂.journey L₁.wide L₂.wide L₁.narrow L₂.narrow (legs_of a) (legs_of t.answered.answer)
+      d = contracted_unique s.answered.answers t.answered.answers
+
+      networks : L₁.network ≡ L₂.network
+      networks = s.network_stands ∙ sym t.network_stands
+
+      shortcuts : L₁.shortcuts ≡ L₂.shortcuts
+      shortcuts = s.shortcuts_stand ∙ sym t.shortcuts_stand
 
       -- the second, told of the first one's answer
-      second : Told q (stage_after s.answer.number) (line_of s.answer (take s.answer.count L₂.journey)) L.line r₂ L₂.line
+      second : Told q (stage_after a.number) (line_of a (take a.count L₂.journey)) L.line r₂ L₂.line
       second =
           subst (λ (x : Answer). Told q (stage_after x.number) (line_of x (take x.count L₂.journey)) L.line r₂ L₂.line)
-          (sym d.answer_same) t.tells
+          (sym d.answer_same) t.answered.tells
 
-      go : Dec (s.answer.number ≡ 0) → Alike q L.line r₁ L₁ r₂ L₂
+      go : Dec (a.number ≡ 0) → Alike q L.line r₁ L₁ r₂ L₂
       go (yes z) =
-          another_journey s.answer z eN eT d.wide_same d.narrow_same d.journey_size d.behind_same
-          (subst (λ (k : ℕ). Told q (stage_after k) (line_of s.answer (take s.answer.count L₁.journey)) L.line r₁ L₁.line) z
-          s.tells)
-          (subst (λ (k : ℕ). Told q (stage_after k) (line_of s.answer (take s.answer.count L₂.journey)) L.line r₂ L₂.line) z second)
+          another_journey a z networks shortcuts d.wide_same d.narrow_same d.journey_size d.behind_same
+          (subst (λ (k : ℕ). Told q (stage_after k) (line_of a (take a.count L₁.journey)) L.line r₁ L₁.line) z s.answered.tells)
+          (subst (λ (k : ℕ). Told q (stage_after k) (line_of a (take a.count L₂.journey)) L.line r₂ L₂.line) z second)
       go (no n) =
           let j : L₁.journey ≡ L₂.journey = d.refused_same n in
           let b : Both r₁ r₂ L₁.line L₂.line =
-          told_unique s.tells
-          (subst
-          (λ (l : List ℕ). Told q (stage_after s.answer.number) (line_of s.answer (take s.answer.count l)) L.line r₂ L₂.line)
-          (sym j) second) in
-          same b.0 (lent-≡ eN eT j d.wide_same d.narrow_same b.1)
+          told_unique s.answered.tells
+          (subst (λ (l : List ℕ). Told q (stage_after a.number) (line_of a (take a.count l)) L.line r₂ L₂.line) (sym j) second) in
+          same b.0 (lent-≡ networks shortcuts j d.wide_same d.narrow_same b.1)
 
-  taken_unique : Taken q L r₁ L₁ → Taken q L r₂ L₂ → Alike q L.line r₁ L₁ r₂ L₂
-  taken_unique (of_network k t e) (of_network k' t' e') =
-      let u = network_unique t t' in
-      same u.1.both.0 (lent-≡ u.0 u.1.shortcuts (e ∙ sym e') u.1.wide u.1.narrow u.1.both.1)
-  taken_unique (of_network k t e) (question n k' t' a b) = absurd (n k)
-  taken_unique (of_network k t e) (other n k' t' a b c d f) = absurd (n k)
-  taken_unique (question n k t a b) (of_network k' t' e) = absurd (n k')
-  taken_unique (question n k t a b) (question n' k' t' a' b') = asked_unique t t' (a ∙ sym a') (b ∙ sym b')
-  taken_unique (question n k t a b) (other n' k' t' a' b' c d f) = absurd (k' k)
-  taken_unique (other n k t a b c d f) (of_network k' t' e) = absurd (n k')
-  taken_unique (other n k t a b c d f) (question n' k' t' a' b') = absurd (k k')
-  taken_unique (other n k t a b c d f) (other n' k' t' a' b' c' d' f') =
-      let u = simply_unique t t' in
-      same u.0 (lent-≡ (a ∙ sym a') (b ∙ sym b') (c ∙ sym c') (d ∙ sym d') (f ∙ sym f') u.1)
+  lined : Both r₁ r₂ L₁.line L₂.line → L₁ ≡ line_only L L₁.line → L₂ ≡ line_only L L₂.line → Alike q L.line r₁ L₁ r₂ L₂
+  lined b e f = same b.0 (e ∙ ap (line_only L) b.1 ∙ sym f)
+
+module _ {q : Reader} (L : Lent) {L₁ L₂ : Lent} {r₁ r₂ : Reader} where
+  taken_unique : (k : Kind) → Taken k q L r₁ L₁ → Taken k q L r₂ L₂ → Alike q L.line r₁ L₁ r₂ L₂
+  taken_unique kind.End t u = same (t.0 ∙ sym u.0) (t.1 ∙ sym u.1)
+  taken_unique kind.Head t u = lined (head_unique t.0 u.0) t.1 u.1
+  taken_unique kind.Node t u = alike (network_unique t u)
+  taken_unique kind.Edge t u = alike (network_unique t u)
+  taken_unique kind.State t u = lined (state_unique t.0 u.0) t.1 u.1
+  taken_unique kind.Question t u = asked_unique t u
+  taken_unique kind.Sheet t u = lined (sheet_begun_unique t.0 u.0) t.1 u.1
+
+  held_unique : Held q L r₁ L₁ → Held q L r₂ L₂ → Alike q L.line r₁ L₁ r₂ L₂
+  held_unique (Held.waits k c h e l) (Held.waits k' c' h' e' l') = same (e ∙ sym e') (l ∙ sym l')
+  held_unique (Held.waits k c h e l) (Held.takes k' c' h' t) = absurd (omega (arith, h, h', ap size_of (kind_unique k k' (c ∙ sym c'))))
+  held_unique (Held.waits k c h e l) (Held.unknown n t l') = absurd (n k c)
+  held_unique (Held.takes k c h t) (Held.waits k' c' h' e l) = absurd (omega (arith, h, h', ap size_of (kind_unique k k' (c ∙ sym c'))))
+  held_unique (Held.takes k c h t) (Held.takes k' c' h' t') =
+      taken_unique k t (subst (λ (x : Kind). Taken x q L r₂ L₂) (kind_unique k' k (c' ∙ sym c)) t')
+  held_unique (Held.takes k c h t) (Held.unknown n t' l) = absurd (n k c)
+  held_unique (Held.unknown n t l) (Held.waits k c h e l') = absurd (n k c)
+  held_unique (Held.unknown n t l) (Held.takes k c h t') = absurd (n k c)
+  held_unique (Held.unknown n t l) (Held.unknown n' t' l') = lined (told_unique t t') l l'
 
 -- `feed`
 pub fed_unique : {r r₁ r₂ : Reader} {byte : ℕ} {L L₁ L₂ : Lent} → Fed r byte L r₁ L₁ → Fed r byte L r₂ L₂
     → Alike (holding r byte) L.line r₁ L₁ r₂ L₂
 fed_unique (Fed.over o e l) (Fed.over o' e' l') = same (e ∙ sym e') (l ∙ sym l')
 fed_unique (Fed.over o e l) (Fed.misplaced n m t l') = absurd (n o)
-fed_unique (Fed.over o e l) (Fed.holds n m u e' l') = absurd (n o)
-fed_unique (Fed.over o e l) (Fed.takes n m u t) = absurd (n o)
+fed_unique (Fed.over o e l) (Fed.held n m h) = absurd (n o)
 fed_unique (Fed.misplaced n m t l) (Fed.over o e l') = absurd (n o)
-fed_unique {L = L} (Fed.misplaced n m t l) (Fed.misplaced n' m' t' l') =
-    let b = told_unique t t' in
-    same b.0 (l ∙ (λ i. record {
-      network = L.network;
-      shortcuts = L.shortcuts;
-      journey = L.journey;
-      wide = L.wide;
-      narrow = L.narrow;
-      line = b.1 i;
-    }) ∙ sym l')
-fed_unique (Fed.misplaced n m t l) (Fed.holds n' m' u e l') = absurd (m' m)
-fed_unique (Fed.misplaced n m t l) (Fed.takes n' m' u t') = absurd (m' m)
-fed_unique (Fed.holds n m u e l) (Fed.over o e' l') = absurd (n o)
-fed_unique (Fed.holds n m u e l) (Fed.misplaced n' m' t l') = absurd (m m')
-fed_unique (Fed.holds n m u e l) (Fed.holds n' m' u' e' l') = same (e ∙ sym e') (l ∙ sym l')
-fed_unique (Fed.holds n m u e l) (Fed.takes n' m' u' t) = absurd (omega (arith, u, u'))
-fed_unique (Fed.takes n m u t) (Fed.over o e l) = absurd (n o)
-fed_unique (Fed.takes n m u t) (Fed.misplaced n' m' t' l') = absurd (m m')
-fed_unique (Fed.takes n m u t) (Fed.holds n' m' u' e l) = absurd (omega (arith, u, u'))
-fed_unique (Fed.takes n m u t) (Fed.takes n' m' u' t') = taken_unique t t'
+fed_unique (Fed.misplaced n m t l) (Fed.misplaced n' m' t' l') = lined (told_unique t t') l l'
+fed_unique (Fed.misplaced n m t l) (Fed.held n' m' h) = absurd (m' m)
+fed_unique (Fed.held n m h) (Fed.over o e l) = absurd (n o)
+fed_unique (Fed.held n m h) (Fed.misplaced n' m' t l) = absurd (m m')
+fed_unique (Fed.held n m h) (Fed.held n' m' h') = held_unique _ h h'
 
 -- `finish`
 pub finish_unique : {r r₁ r₂ : Reader} {line l₁ l₂ : List ℕ} → Finished r line r₁ l₁ → Finished r line r₂ l₂ → (r₁ ≡ r₂) × (l₁ ≡ l₂)
 finish_unique (Finished.over o e l) (Finished.over o' e' l') = (e ∙ sym e', l ∙ sym l')
-finish_unique (Finished.over o e l) (Finished.ended o' e' l') = absurd (omega arith)
+finish_unique (Finished.over o e l) (Finished.ended o' e' l') = cc
 finish_unique (Finished.over o e l) (Finished.stops n n' t) = absurd (n o)
-finish_unique (Finished.ended o e l) (Finished.over o' e' l') = absurd (omega arith)
+finish_unique (Finished.ended o e l) (Finished.over o' e' l') = cc
 finish_unique (Finished.ended o e l) (Finished.ended o' e' l') = (e ∙ sym e', l ∙ sym l')
 finish_unique (Finished.ended o e l) (Finished.stops n n' t) = absurd (n' o)
 finish_unique (Finished.stops n n' t) (Finished.over o e l) = absurd (n o)

@@ -1,5 +1,5 @@
 -- How the reader stands to the stream that it reads.
-use mathlib.Core.Path.{◌≡◌, refl, sym, ◌∙◌, ap, subst, subst₂}
+use mathlib.Core.Path.{◌≡◌, refl, sym, ◌∙◌, ap, subst}
 use mathlib.Core.Logic.{◌⊎◌, inl, inr}
 use mathlib.Core.Bool.{Bool, true, false, cond}
 use mathlib.Core.List.Memᴰ
@@ -7,47 +7,42 @@ use mathlib.Core.List.{List, [], ◌∷◌, ◌++◌, Memᴰ}
 use Prim.Native.Nat.{ℕ, ◌+◌, ◌%◌, ◌<◌, ◌≤◌}
 use native.Mathlib.Omega.{arith}
 use native.Mathlib.Numerals.{add-one}
-use borrow.Author.Tests.{lt-ltb, le-ltb, eqb-true}
-use lib.Dec.{eqb}
+use borrow.Author.Tests.{lt-ltb, le-ltb}
 use lib.ListN.{length, get_or, take, set, length-append, length-set}
 use lib.Seq.{length-take-le, take-suc-set, get_or-set_same, get_or-set_other, get_or-take}
 use Rattle.network.specs.declared.rows.Row.{Row}
-use Rattle.network.specs.declared.sheet.State.{State}
 use Rattle.network.specs.Network.{Network, nodes, edges}
-use Rattle.network.specs.Sheet.{Sheet, sheet_of, Counted}
+use Rattle.network.specs.Lent.{front_network, front_columns}
+use Rattle.network.specs.declared.sheet.Sheet.{Sheet}
+use Rattle.network.specs.Sheet.{Counted}
 use Rattle.network.specs.Rows.{Columns, Even, table}
 use Rattle.network.specs.Refusal.{Passed, network_order, sheet_order}
 use Rattle.preparation.specs.Contraction.{Prepared}
 use Rattle.preparation.specs.Answers.{Fits}
+use Rattle.records.specs.declared.reader.Kind.{Kind}
+use Rattle.records.specs.declared.reader.Kind.TheVariants as kind
+use Rattle.records.specs.declared.reader.Stage as of_reader
+use Rattle.records.specs.declared.reader.Stage.TheVariants as stages
 use Rattle.records.specs.declared.reader.Reader.{Reader}
 use Rattle.card.specs.Records.{Record, bytes_of}
 use Rattle.lines.specs.Text.{refusal_line}
 use Rattle.card.specs.Stream.{Stage, start, building, ready, listing, asking, ended, due, HeadFine, Follows, Refuses}
-use Rattle.records.specs.Reader.{holding, behind, byte_at, awaits, size}
-use Rattle.card.specs.Reading.{Lent, front_network, front_columns}
+use Rattle.records.specs.Reader.{code_of, holding, behind, byte_at, awaits, size_of}
+use Rattle.card.specs.Reading.{Lent}
 use Rattle.card.specs.Running.{Bytes, EnoughColumns, Enough, told_line}
-use Rattle.card.proofs.RecordBytes.{entries, entries_front, bytes_append, Known, known_end, known_head, known_node, known_edge, known_state, known_question, known_sheet}
+use Rattle.card.proofs.RecordBytes.{entries, entries_front, bytes_append}
 
 -- what a byte that is only held does not change
 pub record Core : Type 0 where
-  pub stage : ℕ
+  pub stage : of_reader.Stage
   pub nodes : ℕ
   pub edges : ℕ
   pub entered : ℕ
   pub shortcuts : ℕ
-  pub sheet : List State
-  pub states : ℕ
+  pub sheet : Sheet
 
 abbrev pub core : Reader → Core
-core r = record {
-  stage = r.stage;
-  nodes = r.nodes;
-  edges = r.edges;
-  entered = r.entered;
-  shortcuts = r.shortcuts;
-  sheet = r.sheet;
-  states = r.states;
-}
+core r = record { stage = r.stage; nodes = r.nodes; edges = r.edges; entered = r.entered; shortcuts = r.shortcuts; sheet = r.sheet }
 
 -- the network in front of the columns is accepted, and its shortcuts are in front of theirs
 pub record Accepted (N : Network) (T : Columns) (n m k : ℕ) : Type 0 where
@@ -67,43 +62,40 @@ pub record EdgesDue (c : Core) : Type 0 where
   pub more : c.entered < c.edges
 
 pub record StatesDue (c : Core) : Type 0 where
-  pub counted : Counted (sheet_of c.sheet c.states)
-  pub eight : length c.sheet ≡ 8
-  pub more : c.entered < c.states
+  pub counted : Counted c.sheet
+  pub eight : length c.sheet.entries ≡ 8
+  pub more : c.entered < c.sheet.states
 
--- what the reader and the columns hold: the network, its shortcuts, the sheet
+-- what the columns hold: the network and its shortcuts
 abbrev pub network_at : Core → Lent → Network
 network_at c L = front_network c.nodes c.edges L.network
 
 abbrev pub rows_at : Core → Lent → Columns
 rows_at c L = front_columns c.shortcuts L.shortcuts
 
-abbrev pub sheet_at : Core → Sheet
-sheet_at c = sheet_of c.sheet c.states
-
 abbrev pub AcceptedAt : Core → Lent → Type 0
 AcceptedAt c L = Accepted L.network L.shortcuts c.nodes c.edges c.shortcuts
 
 -- the stage of the stream, told by the reader and the columns
 pub data At (L : Lent) (c : Core) (s : Stage) : Type 0 where
-  at_start : c.stage ≡ 0 → s ≡ start → At L c s
-  at_nodes : c.stage ≡ 1 → NodesDue c → s ≡ building c.nodes c.edges (front_network c.entered 0 L.network) → At L c s
-  at_edges : c.stage ≡ 2 → EdgesDue c → s ≡ building c.nodes c.edges (front_network c.nodes c.entered L.network) → At L c s
-  at_ready : c.stage ≡ 3 → AcceptedAt c L → s ≡ ready (network_at c L) → At L c s
-  at_states : c.stage ≡ 4 → AcceptedAt c L → StatesDue c
-      → s ≡ listing (network_at c L) (sheet_at c) c.entered → At L c s
-  at_asking : c.stage ≡ 5 → AcceptedAt c L → Passed (sheet_order (sheet_at c))
-      → s ≡ asking (network_at c L) (sheet_at c) → At L c s
-  at_end : c.stage ≡ 6 → s ≡ ended → At L c s
+  at_start : c.stage ≡ stages.HeadDue → s ≡ start → At L c s
+  at_nodes : c.stage ≡ stages.NodesDue → NodesDue c → s ≡ building c.nodes c.edges (front_network c.entered 0 L.network) → At L c s
+  at_edges : c.stage ≡ stages.EdgesDue → EdgesDue c → s ≡ building c.nodes c.edges (front_network c.nodes c.entered L.network) → At L c s
+  at_ready : c.stage ≡ stages.SheetDue → AcceptedAt c L → s ≡ ready (network_at c L) → At L c s
+  at_states : c.stage ≡ stages.StatesDue → AcceptedAt c L → StatesDue c
+      → s ≡ listing (network_at c L) c.sheet c.entered → At L c s
+  at_asking : c.stage ≡ stages.Asking → AcceptedAt c L → Passed (sheet_order c.sheet)
+      → s ≡ asking (network_at c L) c.sheet → At L c s
+  at_end : c.stage ≡ stages.Ended → s ≡ ended → At L c s
 
-pub not_over : {L : Lent} {c : Core} {s : Stage} → At L c s → c.stage ≡ 7 → ⊥
-not_over (at_start e f) o = omega arith
-not_over (at_nodes e d f) o = omega arith
-not_over (at_edges e d f) o = omega arith
-not_over (at_ready e d f) o = omega arith
-not_over (at_states e d g f) o = omega arith
-not_over (at_asking e d g f) o = omega arith
-not_over (at_end e f) o = omega arith
+pub not_over : {L : Lent} {c : Core} {s : Stage} → At L c s → c.stage ≡ stages.Over → ⊥
+not_over (at_start e f) o = cc
+not_over (at_nodes e d f) o = cc
+not_over (at_edges e d f) o = cc
+not_over (at_ready e d f) o = cc
+not_over (at_states e d g f) o = cc
+not_over (at_asking e d g f) o = cc
+not_over (at_end e f) o = cc
 
 -- how many nodes are in front of the columns
 pub front_nodes : {N : Network} → EnoughColumns N → (k m : ℕ) → k ≤ 512 → nodes (front_network k m N) ≡ k
@@ -123,107 +115,103 @@ either kind a b m = go (Memᴰ.cases_cons m)
     go (inl e) = inl e
     go (inr t) = inr (Memᴰ.eq_of_singleton t)
 
-awaits_by : {stage kind : ℕ} (x y : ℕ) → stage ≡ x → kind ≡ y → awaits x y ≡ true → awaits stage kind ≡ true
-awaits_by x y e f h = subst₂ (λ a b. awaits a b ≡ true) (sym e) (sym f) h
+-- a byte that begins a record that may come
+pub record Awaited (stage : of_reader.Stage) (byte : ℕ) : Type 0 where
+  pub kind : Kind
+  pub code : code_of kind ≡ byte
+  pub due : awaits stage kind ≡ true
 
-pub due_awaited : {L : Lent} {c : Core} {s : Stage} → Enough L → At L c s → (kind : ℕ) → Memᴰ kind (due s) → awaits c.stage kind ≡ true
-unfolding awaits
-due_awaited n (at_start e f) kind m = awaits_by 0 1 e (Memᴰ.eq_of_singleton (in_stage f m)) refl
-due_awaited {L} {c} n (at_nodes e d f) kind m =
+awaited_by : {stage : of_reader.Stage} {byte : ℕ} (x : of_reader.Stage) (k : Kind) → stage ≡ x → byte ≡ code_of k → awaits x k ≡ true
+    → Awaited stage byte
+awaited_by x k e f h = record { kind = k; code = sym f; due = subst (λ (s : of_reader.Stage). awaits s k ≡ true) (sym e) h }
+
+pub due_awaited : {L : Lent} {c : Core} {s : Stage} → Enough L → At L c s → (byte : ℕ) → Memᴰ byte (due s) → Awaited c.stage byte
+due_awaited n (at_start e f) byte m = awaited_by stages.HeadDue kind.Head e (Memᴰ.eq_of_singleton (in_stage f m)) refl
+due_awaited {L} {c} n (at_nodes e d f) byte m =
     let few : nodes (front_network c.entered 0 L.network) < c.nodes =
     omega (arith, front_nodes n.columns c.entered 0 (omega (arith, d.more, d.fine.few_nodes)), d.more) in
-    awaits_by 1 2 e
-    (Memᴰ.eq_of_singleton (subst (λ (b : Bool). Memᴰ kind (cond b 2 3 ∷ [])) (lt-ltb _ _ few) (in_stage f m))) refl
-due_awaited {L} {c} n (at_edges e d f) kind m =
+    awaited_by stages.NodesDue kind.Node e
+    (Memᴰ.eq_of_singleton (subst (λ (b : Bool). Memᴰ byte (cond b 2 3 ∷ [])) (lt-ltb _ _ few) (in_stage f m))) refl
+due_awaited {L} {c} n (at_edges e d f) byte m =
     let all : c.nodes ≤ nodes (front_network c.nodes c.entered L.network) =
     omega (arith, front_nodes n.columns c.nodes c.entered d.fine.few_nodes) in
-    awaits_by 2 3 e
-    (Memᴰ.eq_of_singleton (subst (λ (b : Bool). Memᴰ kind (cond b 2 3 ∷ [])) (le-ltb _ _ all) (in_stage f m))) refl
-due_awaited {c = c} n (at_ready e d f) kind m = go (either kind 6 0 (in_stage f m))
+    awaited_by stages.EdgesDue kind.Edge e
+    (Memᴰ.eq_of_singleton (subst (λ (b : Bool). Memᴰ byte (cond b 2 3 ∷ [])) (le-ltb _ _ all) (in_stage f m))) refl
+due_awaited {c = c} n (at_ready e d f) byte m = go (either byte 6 0 (in_stage f m))
   where
-    go : (kind ≡ 6) ⊎ (kind ≡ 0) → awaits c.stage kind ≡ true
-    go (inl k) = awaits_by 3 6 e k refl
-    go (inr k) = awaits_by 3 0 e k refl
-due_awaited n (at_states e d g f) kind m = awaits_by 4 4 e (Memᴰ.eq_of_singleton (in_stage f m)) refl
-due_awaited {c = c} n (at_asking e d g f) kind m = go (Memᴰ.cases_cons (in_stage f m))
+    go : (byte ≡ 6) ⊎ (byte ≡ 0) → Awaited c.stage byte
+    go (inl k) = awaited_by stages.SheetDue kind.Sheet e k refl
+    go (inr k) = awaited_by stages.SheetDue kind.End e k refl
+due_awaited n (at_states e d g f) byte m = awaited_by stages.StatesDue kind.State e (Memᴰ.eq_of_singleton (in_stage f m)) refl
+due_awaited {c = c} n (at_asking e d g f) byte m = go (Memᴰ.cases_cons (in_stage f m))
   where
-    last : (kind ≡ 5) ⊎ (kind ≡ 0) → awaits c.stage kind ≡ true
-    last (inl k) = awaits_by 5 5 e k refl
-    last (inr k) = awaits_by 5 0 e k refl
+    last : (byte ≡ 5) ⊎ (byte ≡ 0) → Awaited c.stage byte
+    last (inl k) = awaited_by stages.Asking kind.Question e k refl
+    last (inr k) = awaited_by stages.Asking kind.End e k refl
 
-    go : (kind ≡ 6) ⊎ Memᴰ kind (5 ∷ 0 ∷ []) → awaits c.stage kind ≡ true
-    go (inl k) = awaits_by 5 6 e k refl
-    go (inr t) = last (either kind 5 0 t)
-due_awaited n (at_end e f) kind m = absurd (Memᴰ.not-nil (in_stage f m))
+    go : (byte ≡ 6) ⊎ Memᴰ byte (5 ∷ 0 ∷ []) → Awaited c.stage byte
+    go (inl k) = awaited_by stages.Asking kind.Sheet e k refl
+    go (inr t) = last (either byte 5 0 t)
+due_awaited n (at_end e f) byte m = absurd (Memᴰ.not-nil (in_stage f m))
 
--- what a kind that is awaited is
-awaited_at : {stage : ℕ} (kind x : ℕ) → stage ≡ x → awaits stage kind ≡ true → awaits x kind ≡ true
-awaited_at kind x e h = subst (λ (a : ℕ). awaits a kind ≡ true) e h
+-- which kinds are awaited
+pub no_kind : {A : Type 0} → false ≡ true → A
+no_kind e = cc
 
-first_or : (kind a : ℕ) (other : Bool) → cond (eqb kind a) true other ≡ true → (kind ≡ a) ⊎ (other ≡ true)
-first_or kind a other h = go (eqb kind a) refl h
+awaited_at : {stage : of_reader.Stage} (k : Kind) (x : of_reader.Stage) → stage ≡ x → awaits stage k ≡ true → awaits x k ≡ true
+awaited_at k x e h = subst (λ (s : of_reader.Stage). awaits s k ≡ true) e h
+
+pub head_awaited : {stage : of_reader.Stage} (k : Kind) → stage ≡ stages.HeadDue → awaits stage k ≡ true → k ≡ kind.Head
+head_awaited k e h = go k (awaited_at k stages.HeadDue e h)
   where
-    go : (b : Bool) → eqb kind a ≡ b → cond b true other ≡ true → (kind ≡ a) ⊎ (other ≡ true)
-    go true e g = inl (eqb-true kind a e)
-    go false e g = inr g
+    go : (x : Kind) → awaits stages.HeadDue x ≡ true → x ≡ kind.Head
+    go kind.Head h' = refl
+    go _ h' = no_kind h'
 
-pub awaited_head : {stage : ℕ} (kind : ℕ) → stage ≡ 0 → awaits stage kind ≡ true → kind ≡ 1
-unfolding awaits
-awaited_head kind e h = eqb-true kind 1 (awaited_at kind 0 e h)
-
-pub awaited_node : {stage : ℕ} (kind : ℕ) → stage ≡ 1 → awaits stage kind ≡ true → kind ≡ 2
-unfolding awaits
-awaited_node kind e h = eqb-true kind 2 (awaited_at kind 1 e h)
-
-pub awaited_edge : {stage : ℕ} (kind : ℕ) → stage ≡ 2 → awaits stage kind ≡ true → kind ≡ 3
-unfolding awaits
-awaited_edge kind e h = eqb-true kind 3 (awaited_at kind 2 e h)
-
-pub awaited_ready : {stage : ℕ} (kind : ℕ) → stage ≡ 3 → awaits stage kind ≡ true → (kind ≡ 6) ⊎ (kind ≡ 0)
-unfolding awaits
-awaited_ready kind e h = go (first_or kind 6 (eqb kind 0) (awaited_at kind 3 e h))
+pub node_awaited : {stage : of_reader.Stage} (k : Kind) → stage ≡ stages.NodesDue → awaits stage k ≡ true → k ≡ kind.Node
+node_awaited k e h = go k (awaited_at k stages.NodesDue e h)
   where
-    go : (kind ≡ 6) ⊎ (eqb kind 0 ≡ true) → (kind ≡ 6) ⊎ (kind ≡ 0)
-    go (inl k) = inl k
-    go (inr t) = inr (eqb-true kind 0 t)
+    go : (x : Kind) → awaits stages.NodesDue x ≡ true → x ≡ kind.Node
+    go kind.Node h' = refl
+    go _ h' = no_kind h'
 
-pub awaited_state : {stage : ℕ} (kind : ℕ) → stage ≡ 4 → awaits stage kind ≡ true → kind ≡ 4
-unfolding awaits
-awaited_state kind e h = eqb-true kind 4 (awaited_at kind 4 e h)
-
-pub awaited_asking : {stage : ℕ} (kind : ℕ) → stage ≡ 5 → awaits stage kind ≡ true → (kind ≡ 6) ⊎ ((kind ≡ 5) ⊎ (kind ≡ 0))
-unfolding awaits
-awaited_asking kind e h = go (first_or kind 6 (cond (eqb kind 5) true (eqb kind 0)) (awaited_at kind 5 e h))
+pub edge_awaited : {stage : of_reader.Stage} (k : Kind) → stage ≡ stages.EdgesDue → awaits stage k ≡ true → k ≡ kind.Edge
+edge_awaited k e h = go k (awaited_at k stages.EdgesDue e h)
   where
-    last : (kind ≡ 5) ⊎ (eqb kind 0 ≡ true) → (kind ≡ 5) ⊎ (kind ≡ 0)
-    last (inl k) = inl k
-    last (inr t) = inr (eqb-true kind 0 t)
+    go : (x : Kind) → awaits stages.EdgesDue x ≡ true → x ≡ kind.Edge
+    go kind.Edge h' = refl
+    go _ h' = no_kind h'
 
-    go : (kind ≡ 6) ⊎ (cond (eqb kind 5) true (eqb kind 0) ≡ true) → (kind ≡ 6) ⊎ ((kind ≡ 5) ⊎ (kind ≡ 0))
-    go (inl k) = inl k
-    go (inr t) = inr (last (first_or kind 5 (eqb kind 0) t))
-
-pub awaited_never : {stage : ℕ} (kind : ℕ) → stage ≡ 6 → awaits stage kind ≡ true → ⊥
-unfolding awaits
-awaited_never kind e h = let z : ◌≡◌ {A = ℕ} 0 1 = ap (λ (b : Bool). cond b 1 0) (awaited_at kind 6 e h) in omega arith
-
-pub awaited_known : {L : Lent} {c : Core} {s : Stage} → At L c s → (kind : ℕ) → awaits c.stage kind ≡ true → Known kind
-awaited_known (at_start e f) kind h = known_head (awaited_head kind e h)
-awaited_known (at_nodes e d f) kind h = known_node (awaited_node kind e h)
-awaited_known (at_edges e d f) kind h = known_edge (awaited_edge kind e h)
-awaited_known (at_ready e d f) kind h = go (awaited_ready kind e h)
+pub sheet_awaited : {stage : of_reader.Stage} (k : Kind) → stage ≡ stages.SheetDue → awaits stage k ≡ true → (k ≡ kind.Sheet) ⊎ (k ≡ kind.End)
+sheet_awaited k e h = go k (awaited_at k stages.SheetDue e h)
   where
-    go : (kind ≡ 6) ⊎ (kind ≡ 0) → Known kind
-    go (inl k) = known_sheet k
-    go (inr k) = known_end k
-awaited_known (at_states e d g f) kind h = known_state (awaited_state kind e h)
-awaited_known (at_asking e d g f) kind h = go (awaited_asking kind e h)
+    go : (x : Kind) → awaits stages.SheetDue x ≡ true → (x ≡ kind.Sheet) ⊎ (x ≡ kind.End)
+    go kind.Sheet h' = inl refl
+    go kind.End h' = inr refl
+    go _ h' = no_kind h'
+
+pub state_awaited : {stage : of_reader.Stage} (k : Kind) → stage ≡ stages.StatesDue → awaits stage k ≡ true → k ≡ kind.State
+state_awaited k e h = go k (awaited_at k stages.StatesDue e h)
   where
-    go : (kind ≡ 6) ⊎ ((kind ≡ 5) ⊎ (kind ≡ 0)) → Known kind
-    go (inl k) = known_sheet k
-    go (inr (inl k)) = known_question k
-    go (inr (inr k)) = known_end k
-awaited_known (at_end e f) kind h = absurd (awaited_never kind e h)
+    go : (x : Kind) → awaits stages.StatesDue x ≡ true → x ≡ kind.State
+    go kind.State h' = refl
+    go _ h' = no_kind h'
+
+pub question_awaited : {stage : of_reader.Stage} (k : Kind) → stage ≡ stages.Asking → awaits stage k ≡ true
+    → (k ≡ kind.Question) ⊎ ((k ≡ kind.Sheet) ⊎ (k ≡ kind.End))
+question_awaited k e h = go k (awaited_at k stages.Asking e h)
+  where
+    go : (x : Kind) → awaits stages.Asking x ≡ true → (x ≡ kind.Question) ⊎ ((x ≡ kind.Sheet) ⊎ (x ≡ kind.End))
+    go kind.Question h' = inl refl
+    go kind.Sheet h' = inr (inl refl)
+    go kind.End h' = inr (inr refl)
+    go _ h' = no_kind h'
+
+pub none_awaited : {stage : of_reader.Stage} (k : Kind) → stage ≡ stages.Ended → awaits stage k ≡ true → ⊥
+none_awaited k e h = go k (awaited_at k stages.Ended e h)
+  where
+    go : (x : Kind) → awaits stages.Ended x ≡ true → ⊥
+    go _ h' = no_kind h'
 
 -- between two records
 pub record Between (s : Stage) (off : ℕ) (r : Reader) (L : Lent) : Type 0 where
@@ -233,8 +221,8 @@ pub record Between (s : Stage) (off : ℕ) (r : Reader) (L : Lent) : Type 0 wher
   pub none_held : r.held ≡ 0
   pub eight : length r.bytes ≡ 8
 
--- inside a record of which some bytes, `full`, are held
-pub record Inside (s : Stage) (off : ℕ) (full : List ℕ) (r : Reader) (L : Lent) : Type 0 where
+-- inside a record of this kind, of which some bytes, `full`, are held
+pub record Inside (k : Kind) (s : Stage) (off : ℕ) (full : List ℕ) (r : Reader) (L : Lent) : Type 0 where
   pub at : At L (core r) s
   pub enough : Enough L
   pub here : r.offset ≡ off
@@ -243,39 +231,40 @@ pub record Inside (s : Stage) (off : ℕ) (full : List ℕ) (r : Reader) (L : Le
   pub counted : r.held ≡ length full
   pub holds : take r.held r.bytes ≡ full
   pub bytes : Bytes full
-  pub due : awaits r.stage (byte_at r 0) ≡ true
+  pub first : code_of k ≡ byte_at r 0
+  pub due : awaits r.stage k ≡ true
 
 -- all bytes of a record are held
-pub record Full (s : Stage) (off : ℕ) (full : List ℕ) (q : Reader) (L : Lent) : Type 0 where
-  pub inside : Inside s off full q L
-  pub whole : q.held ≡ size (byte_at q 0)
+pub record Full (k : Kind) (s : Stage) (off : ℕ) (full : List ℕ) (q : Reader) (L : Lent) : Type 0 where
+  pub inside : Inside k s off full q L
+  pub whole : q.held ≡ size_of k
   pub early : off + length full < 4611686018427387904
 
-pub size_most : (kind : ℕ) → Known kind → (1 ≤ size kind) × (size kind ≤ 8)
-unfolding size
-size_most kind (known_end k) = rw k (omega arith, omega arith)
-size_most kind (known_head k) = rw k (omega arith, omega arith)
-size_most kind (known_node k) = rw k (omega arith, omega arith)
-size_most kind (known_edge k) = rw k (omega arith, omega arith)
-size_most kind (known_state k) = rw k (omega arith, omega arith)
-size_most kind (known_question k) = rw k (omega arith, omega arith)
-size_most kind (known_sheet k) = rw k (omega arith, omega arith)
+pub size_most : (k : Kind) → (1 ≤ size_of k) × (size_of k ≤ 8)
+size_most kind.End = (omega arith, omega arith)
+size_most kind.Head = (omega arith, omega arith)
+size_most kind.Node = (omega arith, omega arith)
+size_most kind.Edge = (omega arith, omega arith)
+size_most kind.State = (omega arith, omega arith)
+size_most kind.Question = (omega arith, omega arith)
+size_most kind.Sheet = (omega arith, omega arith)
 
 -- one byte more
-module _ {s : Stage} {off : ℕ} {L : Lent} (r : Reader) (full : List ℕ) (b : ℕ) (at : At L (core r) s) (enough : Enough L) (here : r.offset ≡ off)
-    (eight : length r.bytes ≡ 8) (counted : r.held ≡ length full) (few : r.held < 8) (holds : take r.held r.bytes ≡ full)
-    (bytes : Bytes full) (byte : b < 256) (due : awaits r.stage (byte_at (holding r b) 0) ≡ true) where
+module _ (k : Kind) {s : Stage} {off : ℕ} {L : Lent} (r : Reader) (full : List ℕ) (b : ℕ) (at : At L (core r) s) (enough : Enough L)
+    (here : r.offset ≡ off) (eight : length r.bytes ≡ 8) (counted : r.held ≡ length full) (few : r.held < 8)
+    (holds : take r.held r.bytes ≡ full) (bytes : Bytes full) (byte : b < 256) (first : code_of k ≡ byte_at (holding r b) 0)
+    (due : awaits r.stage k ≡ true) where
   place : r.held % 8 ≡ r.held
   place = omega arith
 
   held_now : take (r.held % 8 + 1) (set r.bytes (r.held % 8) b) ≡ full ++ b ∷ []
   held_now =
-      ap (λ k. take (k + 1) (set r.bytes k b)) place
-      ∙ ap (λ k. take k (set r.bytes r.held b)) (add-one r.held)
+      ap (λ n. take (n + 1) (set r.bytes n b)) place
+      ∙ ap (λ n. take n (set r.bytes r.held b)) (add-one r.held)
       ∙ take-suc-set r.bytes r.held b (omega arith)
       ∙ ap (λ l. l ++ b ∷ []) holds
 
-  pub gathered : Inside s off (full ++ b ∷ []) (holding r b) L
+  pub gathered : Inside k s off (full ++ b ∷ []) (holding r b) L
   gathered = record {
     at = at;
     enough = enough;
@@ -285,62 +274,63 @@ module _ {s : Stage} {off : ℕ} {L : Lent} (r : Reader) (full : List ℕ) (b : 
     counted = omega (arith, length-append full (b ∷ []));
     holds = held_now;
     bytes = bytes_append full (b ∷ []) bytes (byte, tt);
+    first = first;
     due = due;
   }
 
 -- the first byte of a record
-pub gathered_first : {s : Stage} {off : ℕ} {r : Reader} {L : Lent} (b : ℕ) → Between s off r L → b < 256 → awaits r.stage b ≡ true
-    → Inside s off (b ∷ []) (holding r b) L
-gathered_first {r = r} b B h d =
-    gathered r [] b B.at B.enough B.here B.eight B.none_held (omega (arith, B.none_held))
-    (ap (λ k. take k r.bytes) B.none_held) tt h (subst (λ k. awaits r.stage k ≡ true) (sym first) d)
-  where
-    first : get_or (set r.bytes (r.held % 8) b) 0 0 ≡ b
-    first =
-        let z : r.held % 8 ≡ 0 = omega (arith, B.none_held) in
-        ap (λ k. get_or (set r.bytes k b) 0 0) z ∙ get_or-set_same r.bytes 0 b 0 (omega (arith, B.eight))
+pub first_held : {s : Stage} {off : ℕ} {r : Reader} {L : Lent} (b : ℕ) → Between s off r L → byte_at (holding r b) 0 ≡ b
+first_held {r = r} b B =
+    let z : r.held % 8 ≡ 0 = omega (arith, B.none_held) in
+    ap (λ n. get_or (set r.bytes n b) 0 0) z ∙ get_or-set_same r.bytes 0 b 0 (omega (arith, B.eight))
+
+pub gathered_first : {k : Kind} {s : Stage} {off : ℕ} {r : Reader} {L : Lent} (b : ℕ) → Between s off r L → b < 256 → code_of k ≡ b
+    → awaits r.stage k ≡ true → Inside k s off (b ∷ []) (holding r b) L
+gathered_first {k} {r = r} b B h c d =
+    gathered k r [] b B.at B.enough B.here B.eight B.none_held (omega (arith, B.none_held))
+    (ap (λ n. take n r.bytes) B.none_held) tt h (c ∙ sym (first_held b B)) d
 
 -- and a further one
-pub gathered_more : {s : Stage} {off : ℕ} {full : List ℕ} {r : Reader} {L : Lent} (b : ℕ) → Inside s off full r L
-    → r.held < size (byte_at r 0) → b < 256 → Inside s off (full ++ b ∷ []) (holding r b) L
-gathered_more {full = full} {r = r} b I u h =
-    gathered r full b I.at I.enough I.here I.eight I.counted few I.holds I.bytes h
-    (subst (λ k. awaits r.stage k ≡ true) (sym first) I.due)
+pub gathered_more : {k : Kind} {s : Stage} {off : ℕ} {full : List ℕ} {r : Reader} {L : Lent} (b : ℕ) → Inside k s off full r L
+    → r.held < size_of k → b < 256 → Inside k s off (full ++ b ∷ []) (holding r b) L
+gathered_more {k} {full = full} {r = r} b I u h =
+    gathered k r full b I.at I.enough I.here I.eight I.counted few I.holds I.bytes h (I.first ∙ sym first) I.due
   where
     few : r.held < 8
-    few = omega (arith, u, (size_most (byte_at r 0) (awaited_known I.at (byte_at r 0) I.due)).1)
+    few = omega (arith, u, (size_most k).1)
 
     first : get_or (set r.bytes (r.held % 8) b) 0 0 ≡ get_or r.bytes 0 0
     first = get_or-set_other r.bytes (r.held % 8) 0 b 0 (λ e. omega (arith, e, few, I.some, I.counted))
 
 -- the first byte stays
-pub first_byte : {s : Stage} {off : ℕ} {full : List ℕ} {r : Reader} {L : Lent} → Inside s off full r L → get_or full 0 0 ≡ byte_at r 0
+pub first_byte : {k : Kind} {s : Stage} {off : ℕ} {full : List ℕ} {r : Reader} {L : Lent} → Inside k s off full r L
+    → get_or full 0 0 ≡ byte_at r 0
 first_byte {full = full} {r = r} I =
     ap (λ l. get_or l 0 0) (sym I.holds) ∙ get_or-take r.held r.bytes 0 0 (omega (arith, I.some, I.counted))
 
 -- what a whole record is and where the next begins
-module _ {s : Stage} {off : ℕ} {full : List ℕ} {q : Reader} {L : Lent} (F : Full s off full q L) where
-  pub full_entries : (n : ℕ) → size (byte_at q 0) ≡ n → n ≤ 8 → entries n 0 q.bytes ≡ full
-  full_entries n e h =
-      entries_front n q.bytes (omega (arith, F.inside.eight)) ∙ ap (λ k. take k q.bytes) (sym (F.whole ∙ e)) ∙ F.inside.holds
+module _ {k : Kind} {s : Stage} {off : ℕ} {full : List ℕ} {q : Reader} {L : Lent} (F : Full k s off full q L) where
+  pub full_entries : entries (size_of k) 0 q.bytes ≡ full
+  full_entries =
+      entries_front (size_of k) q.bytes (omega (arith, F.inside.eight, (size_most k).1)) ∙ ap (λ n. take n q.bytes) (sym F.whole) ∙ F.inside.holds
 
-  pub full_bytes : (n : ℕ) → size (byte_at q 0) ≡ n → n ≤ 8 → Bytes (entries n 0 q.bytes)
-  full_bytes n e h = subst Bytes (sym (full_entries n e h)) F.inside.bytes
+  pub full_bytes : Bytes (entries (size_of k) 0 q.bytes)
+  full_bytes = subst Bytes (sym full_entries) F.inside.bytes
+
+  pub full_first : byte_at q 0 ≡ code_of k
+  full_first = sym F.inside.first
 
   held_few : q.held ≤ 8
-  held_few = omega (arith, F.whole, (size_most (byte_at q 0) (awaited_known F.inside.at (byte_at q 0) F.inside.due)).1)
+  held_few = omega (arith, F.whole, (size_most k).1)
 
   pub behind_full : behind q ≡ off + length full
   behind_full = omega (arith, F.inside.here, F.inside.counted, held_few, F.early)
-
-  pub off_early : off < 4611686018427387904
-  off_early = omega (arith, F.early)
 
 -- what comes of a record
 pub data Outcome (s : Stage) (x : Record) (off : ℕ) (r' : Reader) (L' : Lent) : Type 0 where
   goes : {s' : Stage} {line : List ℕ} → Follows s x s' line → Between s' (off + length (bytes_of x)) r' L' → told_line r' L'.line ≡ line
       → Outcome s x off r' L'
-  stops : {number place : ℕ} → Refuses s x number place → r'.stage ≡ 7 → told_line r' L'.line ≡ refusal_line number place → Outcome s x off r' L'
+  stops : {number place : ℕ} → Refuses s x number place → r'.stage ≡ stages.Over → told_line r' L'.line ≡ refusal_line number place → Outcome s x off r' L'
 
 pub record Acts (s : Stage) (full : List ℕ) (off : ℕ) (r' : Reader) (L' : Lent) : Type 0 where
   pub what : Record
@@ -348,7 +338,7 @@ pub record Acts (s : Stage) (full : List ℕ) (off : ℕ) (r' : Reader) (L' : Le
   pub outcome : Outcome s what off r' L'
 
 -- the next record begins behind this one
-pub after_record : {s s' : Stage} {off : ℕ} {full : List ℕ} {q r' : Reader} {L L' : Lent} (x : Record) → Full s off full q L → At L' (core r') s'
+pub after_record : {k : Kind} {s s' : Stage} {off : ℕ} {full : List ℕ} {q r' : Reader} {L L' : Lent} (x : Record) → Full k s off full q L → At L' (core r') s'
     → Enough L' → r'.offset ≡ behind q → r'.held ≡ 0 → r'.bytes ≡ q.bytes → full ≡ bytes_of x → Between s' (off + length (bytes_of x)) r' L'
 after_record {off = off} x F at en o h b e = record {
   at = at;

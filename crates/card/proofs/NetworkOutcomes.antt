@@ -6,27 +6,30 @@ use mathlib.Core.List.{List, []}
 use Prim.Native.Nat.{ℕ, suc, ◌-◌, ◌<◌, ◌≤◌, min}
 use native.Mathlib.Omega.{arith}
 use native.Mathlib.Decide.{dec_lt}
-use borrow.Author.Tests.{eq-eqb, ne_eqb, lt-ltb, le-ltb}
-use lib.Dec.{ltb}
+use borrow.Author.Tests.{lt-ltb, le-ltb}
 use lib.ListN.{length, get_or, take, replicate, length-set, length-take, length-replicate}
 use lib.Seq.{length-take-le, take-suc-set, get_or-take, take-append_seam, ext_get_or}
 use Rattle.network.specs.declared.answer.Answer.{Answer}
 use Rattle.network.specs.declared.rows.Row.{Row}
 use Rattle.network.specs.Network.{Network, network, nodes, edges, Sized}
+use Rattle.network.specs.Lent.{front_network, front_columns}
 use Rattle.network.specs.Rows.{Columns, Even, no_row, shortcut, table}
 use Rattle.network.specs.Refusal.{Refused, entries_order}
 use Rattle.network.proofs.RowLaws.{table_length, row-≡, table_at}
 use Rattle.search.specs.Orders.{Roomy}
 use Rattle.search.proofs.RefusalLaws.{refused_avoids}
 use Rattle.preparation.specs.Answers.{prepare_order, Holds, PreparedInto, refuses, exceeds, prepares}
+use Rattle.records.specs.declared.reader.Kind.{Kind}
+use Rattle.records.specs.declared.reader.Kind.TheVariants as kind
+use Rattle.records.specs.declared.reader.Stage.TheVariants as stages
 use Rattle.records.specs.declared.reader.Reader.{Reader}
 use Rattle.card.specs.Records.{Record, node, edge, bytes_of}
 use Rattle.card.specs.Stream.{Stage, building, ready, HeadFine, with_node, with_edge, Brings, a_node, an_edge, Whole, grows, accepts, bad_network, too_many}
-use Rattle.records.specs.Reader.{word, behind, byte_at, size}
-use Rattle.card.specs.Reading.{Lent, Refusing, node_stored, edge_stored, stored, entering, one_more, counted, NetworkIn, front_network, front_columns, readied, Closed, accepted, refused, NetworkTaken, more_due, closes}
+use Rattle.records.specs.Reader.{word, behind, byte_at}
+use Rattle.card.specs.Reading.{Lent, Refusing, node_stored, edge_stored, entering, one_more, node_counted, edge_counted, readied, Closed, accepted, refused, NetworkTaken, more_due, closes, with_network, NodeTaken, EdgeTaken}
 use Rattle.card.specs.Running.{EnoughColumns, Enough}
 use Rattle.card.proofs.RecordBytes.{node_bytes, edge_bytes}
-use Rattle.card.proofs.Invariant.{core, Accepted, NodesDue, EdgesDue, At, at_nodes, at_edges, at_ready, front_nodes, front_edges, Full, full_entries, full_bytes, behind_full, goes, Acts, after_record}
+use Rattle.card.proofs.Invariant.{core, Accepted, NodesDue, EdgesDue, At, at_nodes, at_edges, at_ready, front_nodes, front_edges, Full, full_entries, full_bytes, full_first, behind_full, goes, Acts, after_record}
 use Rattle.card.proofs.SimpleOutcomes.{refused_stops}
 
 -- the front of a table ----------------------------------------------------------------------------------------------------------------------------
@@ -108,21 +111,6 @@ front_sized {N} {n} {m} e h = record {
     b : edges (front_network n m N) ≡ m
     b = front_edges e n m h.few_edges
 
--- what was lent before and after a record of the network, and after its preparation
-abbrev pub TakenAt : Reader → (L L' : Lent) → Reader → Type 0
-TakenAt q L L' r' =
-    NetworkTaken q L.network L'.network L.shortcuts L'.shortcuts
-    L.wide L'.wide L.narrow L'.narrow L.line L'.line r'
-
-abbrev ClosedAt : Reader → (L L' : Lent) → Reader → Type 0
-ClosedAt p L L' r' =
-    Closed p L'.network L.shortcuts L'.shortcuts
-    L.wide L'.wide L.narrow L'.narrow L.line L'.line r'
-
-abbrev PreparedAt : (n m : ℕ) (L L' : Lent) → Answer → Type 0
-PreparedAt n m L L' a =
-    PreparedInto (front_network n m L'.network) L.shortcuts L'.shortcuts L.wide L'.wide L.narrow L'.narrow a
-
 -- the last record -------------------------------------------------------------------------------------------------------------------------------
 
 -- what a refusal of a network may say
@@ -145,31 +133,31 @@ module _ {N : Network} {T : Columns} {wide narrow : ℕ} (s : Sized N) (v : Even
 number_of : {a b : Answer} → a ≡ b → a.number ≡ b.number
 number_of e = ap (λ (x : Answer). x.number) e
 
-module _ {n m off : ℕ} {N₀ : Network} {full : List ℕ} {q : Reader} {L : Lent} (L' : Lent) (x : Record) (F : Full (building n m N₀) off full q L)
-    (same : full ≡ bytes_of x) (fine : HeadFine n m) (brings : Brings n m N₀ x (front_network n m L'.network))
-    (columns_fine : EnoughColumns L'.network) (journey_same : L'.journey ≡ L.journey) where
-  whole : Whole n m (front_network n m L'.network)
+abbrev PreparedAt : (n m : ℕ) (N : Network) (L L' : Lent) → Answer → Type 0
+PreparedAt n m N L L' a = PreparedInto (front_network n m N) L.shortcuts L'.shortcuts L.wide L'.wide L.narrow L'.narrow a
+
+-- The columns are N now, and the record x was its last.
+module _ {k : Kind} {n m off : ℕ} {N₀ : Network} {full : List ℕ} {q : Reader} {L : Lent} (N : Network) (x : Record)
+    (F : Full k (building n m N₀) off full q L) (same : full ≡ bytes_of x) (fine : HeadFine n m)
+    (brings : Brings n m N₀ x (front_network n m N)) (columns_fine : EnoughColumns N) where
+  whole : Whole n m (front_network n m N)
   whole = record { all_nodes = front_nodes columns_fine n m fine.few_nodes; all_edges = front_edges columns_fine n m fine.few_edges }
 
-  sized : Sized (front_network n m L'.network)
+  sized : Sized (front_network n m N)
   sized = front_sized columns_fine fine
 
-  -- at the last record the network is tested and prepared
-  close_acts : {r' : Reader} (p : Reader) → p.nodes ≡ n → p.edges ≡ m → p.offset ≡ behind q → p.held ≡ 0 → p.bytes ≡ q.bytes
-      → ClosedAt p L L' r'
-      → Acts (building n m N₀) full off r' L'
-  close_acts {r'} p en em eo eh eb (accepted {a} d z e l) =
-      go (subst₂ (λ i j. PreparedAt i j L L' a) en em d)
+  -- the network is tested and prepared
+  close_acts : {r' : Reader} {L' : Lent} (p : Reader) → p.nodes ≡ n → p.edges ≡ m → p.offset ≡ behind q → p.held ≡ 0 → p.bytes ≡ q.bytes
+      → Closed p (with_network L N) r' L' → Acts (building n m N₀) full off r' L'
+  close_acts {r'} {L'} p en em eo eh eb (accepted a d z e l) = go (subst₂ (λ i j. PreparedAt i j N L L' a) en em d.prepared)
     where
-      avoids : (number place : ℕ)
-          → Refused (prepare_order (front_network n m L'.network) L.shortcuts (length L.wide) (length L.narrow)) number place
+      avoids : (number place : ℕ) → Refused (prepare_order (front_network n m N) L.shortcuts (length L.wide) (length L.narrow)) number place
           → number ≡ 0 → ⊥
       avoids number place f e' =
-          refused_avoids (prepare_order (front_network n m L'.network) L.shortcuts (length L.wide) (length L.narrow)) 0 number place
+          refused_avoids (prepare_order (front_network n m N) L.shortcuts (length L.wide) (length L.narrow)) 0 number place
           ((λ y. omega arith), ((λ y. omega arith), ((λ y. omega arith), ((λ y. omega arith), ((λ y. omega arith), tt))))) f e'
 
-      go : PreparedAt n m L L' a
-          → Acts (building n m N₀) full off r' L'
+      go : PreparedAt n m N L L' a → Acts (building n m N₀) full off r' L'
       go (refuses {number = number} {place = place} f ea eT u) = absurd (avoids number place f (sym (number_of ea) ∙ z))
       go (exceeds ps none ea hd ze) = absurd (omega (arith, number_of ea, z))
       go (prepares {ss} ps pr ft ea hd ze) =
@@ -179,7 +167,7 @@ module _ {n m off : ℕ} {N₀ : Network} {full : List ℕ} {q : Reader} {L : Le
             outcome = goes
                 (accepts brings whole (ps.0.0, ps.1.1) pr (record { rows_lent = omega (arith, ft.few_rows); few_rows = ft.few_rows }))
                 (after_record x F
-                (at_ready refl acc (ap₂ (λ i j. ready (front_network i j L'.network)) (sym en) (sym em)))
+                (at_ready refl acc (λ i. ready (front_network (sym en i) (sym em i) (sym d.network_stands i))))
                 enough
                 (omega (arith, eo, eh, behind_full F, F.early))
                 refl eb same)
@@ -187,34 +175,33 @@ module _ {n m off : ℕ} {N₀ : Network} {full : List ℕ} {q : Reader} {L : Le
           })
         where
           acc : Accepted L'.network L'.shortcuts p.nodes p.edges (length ss)
-          acc = subst₂ (λ i j. Accepted L'.network L'.shortcuts i j (length ss)) (sym en) (sym em) (record {
-            passed = (ps.0.0, ps.1.1);
-            rows = ss;
-            prepared = pr;
-            fits = record { rows_lent = omega (arith, ft.few_rows); few_rows = ft.few_rows };
-            even = holds_even hd;
-            shows = holds_front hd;
-          })
+          acc = subst (λ (M : Network). Accepted M L'.shortcuts p.nodes p.edges (length ss)) (sym d.network_stands)
+              (subst₂ (λ i j. Accepted N L'.shortcuts i j (length ss)) (sym en) (sym em) (record {
+                passed = (ps.0.0, ps.1.1);
+                rows = ss;
+                prepared = pr;
+                fits = record { rows_lent = omega (arith, ft.few_rows); few_rows = ft.few_rows };
+                even = holds_even hd;
+                shows = holds_front hd;
+              }))
 
           enough : Enough L'
           enough = record {
-            columns = columns_fine;
+            columns = subst EnoughColumns (sym d.network_stands) columns_fine;
             even = hd.even;
             rows = omega (arith, hd.size, F.inside.enough.rows);
-            journey = omega (arith, ap length journey_same, F.inside.enough.journey);
+            journey = omega (arith, ap length d.journey_stands, F.inside.enough.journey);
             wide = omega (arith, ap length ze.wide_zero, length-replicate {A = ℕ} (length L.wide) 0, F.inside.enough.wide);
             narrow = omega (arith, ap length ze.narrow_zero, length-replicate {A = ℕ} (length L.narrow) 0, F.inside.enough.narrow);
             line = omega (arith, ap length l, F.inside.enough.line);
           }
-  close_acts {r'} p en em eo eh eb (refused {a} d n≢ t) =
-      go (subst₂ (λ i j. PreparedAt i j L L' a) en em d)
+  close_acts {r'} {L'} p en em eo eh eb (refused a d n≢ t) = go (subst₂ (λ i j. PreparedAt i j N L L' a) en em d.prepared)
     where
-      go : PreparedAt n m L L' a
-          → Acts (building n m N₀) full off r' L'
+      go : PreparedAt n m N L L' a → Acts (building n m N₀) full off r' L'
       go (refuses {number = number} {place = place} f ea eT u) =
-          let g : Refused (entries_order (front_network n m L'.network)) number place =
+          let g : Refused (entries_order (front_network n m N)) number place =
           only_entries sized F.inside.enough.even F.inside.enough.wide F.inside.enough.narrow f in
-          let b : (number < 256) × (place ≤ 2048) = entries_refusal (front_network n m L'.network) number place sized g in
+          let b : (number < 256) × (place ≤ 2048) = entries_refusal (front_network n m N) number place sized g in
           refused_stops x same (bad_network brings whole (inr (sized, g))) (subst (λ (y : Answer). Refusing p y L.line r' L'.line) ea t)
           (λ z. n≢ (number_of ea ∙ z)) b.0 (omega (arith, b.1)) F.inside.enough.line
       go (exceeds ps none ea hd ze) =
@@ -227,32 +214,30 @@ module _ {n m off : ℕ} {N₀ : Network} {full : List ℕ} {q : Reader} {L : Le
 -- nodes and edges ------------------------------------------------------------------------------------------------------------------------
 
 -- a record that is not the last
-module _ {n m off : ℕ} {N₀ : Network} {full : List ℕ} {q : Reader} {L : Lent} (x : Record) (F : Full (building n m N₀) off full q L)
-    (same : full ≡ bytes_of x) where
-  grow_acts : {r' : Reader} {L' : Lent} (N₁ : Network) → Brings n m N₀ x N₁ → (Whole n m N₁ → ⊥) → At L' (core r') (building n m N₁)
-      → EnoughColumns L'.network → r'.offset ≡ behind q → r'.held ≡ 0 → r'.bytes ≡ q.bytes → r'.written ≡ 0 → L'.shortcuts ≡ L.shortcuts
-      → L'.journey ≡ L.journey
-      → L'.wide ≡ L.wide → L'.narrow ≡ L.narrow → L'.line ≡ L.line → Acts (building n m N₀) full off r' L'
-  grow_acts {r'} {L'} N₁ b w at en eo eh eb ew es ej ewi ena el = record {
+module _ {k : Kind} {n m off : ℕ} {N₀ : Network} {full : List ℕ} {q : Reader} {L : Lent} (x : Record)
+    (F : Full k (building n m N₀) off full q L) (same : full ≡ bytes_of x) where
+  grow_acts : (p : Reader) (N N₁ : Network) → Brings n m N₀ x N₁ → (Whole n m N₁ → ⊥) → At (with_network L N) (core p) (building n m N₁)
+      → EnoughColumns N → p.offset ≡ behind q → p.held ≡ 0 → p.bytes ≡ q.bytes → p.written ≡ 0
+      → Acts (building n m N₀) full off p (with_network L N)
+  grow_acts p N N₁ b w at en eo eh eb ew = record {
     what = x;
     same = same;
-    outcome = goes (grows b w) (after_record x F at enough eo eh eb same) (ap (λ k. take k L'.line) ew);
+    outcome = goes (grows b w) (after_record x F at enough eo eh eb same) (ap (λ i. take i L.line) ew);
   }
     where
-      enough : Enough L'
+      enough : Enough (with_network L N)
       enough = record {
         columns = en;
-        even = subst Even (sym es) F.inside.enough.even;
-        rows = subst (λ (T : Columns). 4096 ≤ length T.tails) (sym es) F.inside.enough.rows;
-        journey = omega (arith, ap length ej, F.inside.enough.journey);
-        wide = omega (arith, ap length ewi, F.inside.enough.wide);
-        narrow = omega (arith, ap length ena, F.inside.enough.narrow);
-        line = omega (arith, ap length el, F.inside.enough.line);
+        even = F.inside.enough.even;
+        rows = F.inside.enough.rows;
+        journey = F.inside.enough.journey;
+        wide = F.inside.enough.wide;
+        narrow = F.inside.enough.narrow;
+        line = F.inside.enough.line;
       }
 
--- a reader that has counted to the last record
-in_by : {p r : Reader} → p ≡ r → r.stage ≡ 2 → r.edges ≤ r.entered → NetworkIn p
-in_by e a b = subst NetworkIn (sym e) (record { no_node_due = a; no_edge_due = b })
+different : {A : Type 0} → stages.NodesDue ≡ stages.EdgesDue → A
+different e = cc
 
 -- the stage in which a node is due
 abbrev pub nodes_at : Reader → Lent → Stage
@@ -261,10 +246,9 @@ nodes_at q L = building q.nodes q.edges (front_network q.entered 0 L.network)
 abbrev node_at : Reader → Record
 node_at q = node (byte_at q 1) (word (byte_at q 2) (byte_at q 3))
 
-module _ {off : ℕ} {full : List ℕ} {q : Reader} {L : Lent} (F : Full (nodes_at q L) off full q L) (k : byte_at q 0 ≡ 2) (d : NodesDue (core q)) where
+module _ {off : ℕ} {full : List ℕ} {q : Reader} {L : Lent} (F : Full kind.Node (nodes_at q L) off full q L) (d : NodesDue (core q)) where
   node_same : full ≡ bytes_of (node_at q)
-  unfolding size
-  node_same = sym (node_bytes q.bytes (full_bytes F 4 (ap size k) (omega arith)) k ∙ full_entries F 4 (ap size k) (omega arith))
+  node_same = sym (node_bytes q.bytes (full_bytes F) (full_first F) ∙ full_entries F)
 
   node_one : one_more q ≡ suc q.entered
   node_one = omega (arith, d.more, d.fine.few_nodes)
@@ -278,25 +262,15 @@ module _ {off : ℕ} {full : List ℕ} {q : Reader} {L : Lent} (F : Full (nodes_
       (sym (take-suc-set L.network.node_ranks q.entered (word (byte_at q 2) (byte_at q 3))
       (omega (arith, d.more, d.fine.few_nodes, F.inside.enough.columns.node_ranks))))
 
-  node_goes : stored q L.network ≡ node_stored q L.network
-  unfolding stored
-  node_goes = ap (λ (b : Bool). cond b (node_stored q L.network) (edge_stored q L.network)) (eq-eqb (byte_at q 0) 2 k)
-
-  node_counts : counted q ≡ cond (ltb (one_more q) q.nodes) (entering q 1 (one_more q)) (entering q 2 0)
-  unfolding counted
-  node_counts =
-      ap (λ (b : Bool). cond b (cond (ltb (one_more q) q.nodes) (entering q 1 (one_more q)) (entering q 2 0)) (entering q 2 (one_more q)))
-      (eq-eqb (byte_at q 0) 2 k)
-
-  more_nodes : suc q.entered < q.nodes → counted q ≡ entering q 1 (one_more q)
+  more_nodes : suc q.entered < q.nodes → node_counted q ≡ entering q stages.NodesDue (one_more q)
   more_nodes h =
-      node_counts
-      ∙ ap (λ (b : Bool). cond b (entering q 1 (one_more q)) (entering q 2 0)) (lt-ltb (one_more q) q.nodes (omega (arith, h, node_one)))
+      ap (λ (b : Bool). cond b (entering q stages.NodesDue (one_more q)) (entering q stages.EdgesDue 0))
+      (lt-ltb (one_more q) q.nodes (omega (arith, h, node_one)))
 
-  no_more_nodes : (suc q.entered < q.nodes → ⊥) → counted q ≡ entering q 2 0
+  no_more_nodes : (suc q.entered < q.nodes → ⊥) → node_counted q ≡ entering q stages.EdgesDue 0
   no_more_nodes h =
-      node_counts
-      ∙ ap (λ (b : Bool). cond b (entering q 1 (one_more q)) (entering q 2 0)) (le-ltb (one_more q) q.nodes (omega (arith, h, node_one)))
+      ap (λ (b : Bool). cond b (entering q stages.NodesDue (one_more q)) (entering q stages.EdgesDue 0))
+      (le-ltb (one_more q) q.nodes (omega (arith, h, node_one)))
 
   node_columns : EnoughColumns (node_stored q L.network)
   node_columns = node_enough q F.inside.enough.columns
@@ -313,50 +287,50 @@ module _ {off : ℕ} {full : List ℕ} {q : Reader} {L : Lent} (F : Full (nodes_
         front_nodes F.inside.enough.columns q.entered 0 (omega (arith, d.more, d.fine.few_nodes)),
       )))
 
-  pub node_acts : {r' : Reader} (L' : Lent)
-      → TakenAt q L L' r'
-      → L'.journey ≡ L.journey → Acts (nodes_at q L) full off r' L'
-  node_acts {r'} L' t ej = go (dec_lt (suc q.entered) q.nodes) t
+  pub node_acts : {r' : Reader} {L' : Lent} → NodeTaken q L r' L' → Acts (nodes_at q L) full off r' L'
+  node_acts {r'} {L'} t = go (dec_lt (suc q.entered) q.nodes)
     where
-      last : (suc q.entered < q.nodes → ⊥) → Dec (0 < q.edges)
-          → TakenAt q L L' r'
-          → Acts (nodes_at q L) full off r' L'
-      last h (yes g) (more_due n eN eT ew en er el) =
-          let all_in : suc q.entered ≡ q.nodes = omega (arith, h, d.more) in
-          subst (λ (y : Reader). Acts (nodes_at q L) full off y L') (sym (er ∙ no_more_nodes h))
-          (grow_acts (node_at q) F node_same (front_network (suc q.entered) 0 (node_stored q L.network))
-          node_brings (λ w. omega (arith, w.all_edges, g))
-          (at_edges refl (record { fine = d.fine; more = g })
-          (ap₂ (λ i (N : Network). building q.nodes q.edges (front_network i 0 N)) all_in (sym (eN ∙ node_goes))))
-          (subst EnoughColumns (sym (eN ∙ node_goes)) node_columns) refl refl refl refl eT ej ew en el)
-      last h (yes g) (closes i eN c) = absurd (omega (arith, (subst NetworkIn (no_more_nodes h) i).no_edge_due, g))
-      last h (no g) (more_due n eN eT ew en er el) = absurd (n (in_by (no_more_nodes h) refl (omega (arith, g))))
-      last h (no g) (closes i eN c) =
-          let all_in : suc q.entered ≡ q.nodes = omega (arith, h, d.more) in
-          let no_edge : 0 ≡ q.edges = omega (arith, g) in
-          close_acts L' (node_at q) F node_same d.fine
-          (subst
-          (Brings q.nodes q.edges (front_network q.entered 0 L.network) (node_at q))
-          (ap₂ (λ i j. front_network i j (node_stored q L.network)) all_in no_edge
-          ∙ ap (front_network q.nodes q.edges) (sym (eN ∙ node_goes)))
-          node_brings)
-          (subst EnoughColumns (sym (eN ∙ node_goes)) node_columns) ej (entering q 2 0) refl refl refl refl refl
-          (subst
-          (λ (p : Reader). ClosedAt p L L' r')
-          (no_more_nodes h) c)
+      counted_as : {p : Reader} → node_counted q ≡ p → NetworkTaken p (with_network L (node_stored q L.network)) r' L'
+      counted_as e = subst (λ (p : Reader). NetworkTaken p (with_network L (node_stored q L.network)) r' L') e t
 
-      go : Dec (suc q.entered < q.nodes)
-          → TakenAt q L L' r'
+      next : suc q.entered < q.nodes → NetworkTaken (entering q stages.NodesDue (one_more q)) (with_network L (node_stored q L.network)) r' L'
           → Acts (nodes_at q L) full off r' L'
-      go (yes h) (more_due n eN eT ew en er el) =
-          subst (λ (y : Reader). Acts (nodes_at q L) full off y L') (sym (er ∙ more_nodes h))
-          (grow_acts (node_at q) F node_same (front_network (suc q.entered) 0 (node_stored q L.network))
+      next h (more_due n e l) =
+          subst₂ (Acts (nodes_at q L) full off) (sym e) (sym l)
+          (grow_acts (node_at q) F node_same (entering q stages.NodesDue (one_more q)) (node_stored q L.network)
+          (front_network (suc q.entered) 0 (node_stored q L.network))
           node_brings (λ w. omega (arith, w.all_nodes, h, front_nodes node_columns (suc q.entered) 0 (omega (arith, h, d.fine.few_nodes))))
           (at_nodes refl (record { fine = d.fine; more = omega (arith, h, node_one) })
-          (ap₂ (λ i (N : Network). building q.nodes q.edges (front_network i 0 N)) (sym node_one) (sym (eN ∙ node_goes))))
-          (subst EnoughColumns (sym (eN ∙ node_goes)) node_columns) refl refl refl refl eT ej ew en el)
-      go (yes h) (closes i eN c) = absurd (omega (arith, (subst NetworkIn (more_nodes h) i).no_node_due))
-      go (no h) t' = last h (dec_lt 0 q.edges) t'
+          (ap (λ i. building q.nodes q.edges (front_network i 0 (node_stored q L.network))) (sym node_one)))
+          node_columns refl refl refl refl)
+      next h (closes i c) = different i.no_node_due
+
+      last : (suc q.entered < q.nodes → ⊥) → Dec (0 < q.edges) → NetworkTaken (entering q stages.EdgesDue 0) (with_network L (node_stored q L.network)) r' L'
+          → Acts (nodes_at q L) full off r' L'
+      last h (yes g) (more_due n e l) =
+          let all_in : suc q.entered ≡ q.nodes = omega (arith, h, d.more) in
+          subst₂ (Acts (nodes_at q L) full off) (sym e) (sym l)
+          (grow_acts (node_at q) F node_same (entering q stages.EdgesDue 0) (node_stored q L.network)
+          (front_network (suc q.entered) 0 (node_stored q L.network))
+          node_brings (λ w. omega (arith, w.all_edges, g))
+          (at_edges refl (record { fine = d.fine; more = g })
+          (ap (λ i. building q.nodes q.edges (front_network i 0 (node_stored q L.network))) all_in))
+          node_columns refl refl refl refl)
+      last h (yes g) (closes i c) = absurd (omega (arith, i.no_edge_due, g))
+      last h (no g) (more_due n e l) = absurd (n (record { no_node_due = refl; no_edge_due = omega (arith, g) }))
+      last h (no g) (closes i c) =
+          let all_in : suc q.entered ≡ q.nodes = omega (arith, h, d.more) in
+          let no_edge : 0 ≡ q.edges = omega (arith, g) in
+          close_acts (node_stored q L.network) (node_at q) F node_same d.fine
+          (subst
+          (Brings q.nodes q.edges (front_network q.entered 0 L.network) (node_at q))
+          (ap₂ (λ i j. front_network i j (node_stored q L.network)) all_in no_edge)
+          node_brings)
+          node_columns (entering q stages.EdgesDue 0) refl refl refl refl refl c
+
+      go : Dec (suc q.entered < q.nodes) → Acts (nodes_at q L) full off r' L'
+      go (yes h) = next h (counted_as (more_nodes h))
+      go (no h) = last h (dec_lt 0 q.edges) (counted_as (no_more_nodes h))
 
 -- the stage in which an edge is due
 abbrev pub edges_at : Reader → Lent → Stage
@@ -365,10 +339,9 @@ edges_at q L = building q.nodes q.edges (front_network q.nodes q.entered L.netwo
 abbrev edge_at : Reader → Record
 edge_at q = edge (word (byte_at q 1) (byte_at q 2)) (word (byte_at q 3) (byte_at q 4)) (byte_at q 5) (word (byte_at q 6) (byte_at q 7))
 
-module _ {off : ℕ} {full : List ℕ} {q : Reader} {L : Lent} (F : Full (edges_at q L) off full q L) (k : byte_at q 0 ≡ 3) (d : EdgesDue (core q)) where
+module _ {off : ℕ} {full : List ℕ} {q : Reader} {L : Lent} (F : Full kind.Edge (edges_at q L) off full q L) (d : EdgesDue (core q)) where
   edge_same : full ≡ bytes_of (edge_at q)
-  unfolding size
-  edge_same = sym (edge_bytes q.bytes (full_bytes F 8 (ap size k) (omega arith)) k ∙ full_entries F 8 (ap size k) (omega arith))
+  edge_same = sym (edge_bytes q.bytes (full_bytes F) (full_first F) ∙ full_entries F)
 
   edge_one : one_more q ≡ suc q.entered
   edge_one = omega (arith, d.more, d.fine.few_edges)
@@ -386,17 +359,6 @@ module _ {off : ℕ} {full : List ℕ} {q : Reader} {L : Lent} (F : Full (edges_
       (sym (take-suc-set L.network.lengths q.entered (word (byte_at q 6) (byte_at q 7))
       (omega (arith, d.more, d.fine.few_edges, F.inside.enough.columns.lengths))) i)
 
-  edge_goes : stored q L.network ≡ edge_stored q L.network
-  unfolding stored
-  edge_goes =
-      ap (λ (b : Bool). cond b (node_stored q L.network) (edge_stored q L.network)) (ne_eqb (byte_at q 0) 2 (λ e. omega (arith, e, k)))
-
-  edge_counts : counted q ≡ entering q 2 (one_more q)
-  unfolding counted
-  edge_counts =
-      ap (λ (b : Bool). cond b (cond (ltb (one_more q) q.nodes) (entering q 1 (one_more q)) (entering q 2 0)) (entering q 2 (one_more q)))
-      (ne_eqb (byte_at q 0) 2 (λ e. omega (arith, e, k)))
-
   edge_columns : EnoughColumns (edge_stored q L.network)
   edge_columns = edge_enough q F.inside.enough.columns
 
@@ -411,31 +373,25 @@ module _ {off : ℕ} {full : List ℕ} {q : Reader} {L : Lent} (F : Full (edges_
         front_edges F.inside.enough.columns q.nodes q.entered (omega (arith, d.more, d.fine.few_edges)),
       )))
 
-  pub edge_acts : {r' : Reader} (L' : Lent)
-      → TakenAt q L L' r'
-      → L'.journey ≡ L.journey → Acts (edges_at q L) full off r' L'
-  edge_acts {r'} L' t ej = go (dec_lt (suc q.entered) q.edges) t
+  pub edge_acts : {r' : Reader} {L' : Lent} → EdgeTaken q L r' L' → Acts (edges_at q L) full off r' L'
+  edge_acts {r'} {L'} t = go (dec_lt (suc q.entered) q.edges) t
     where
-      go : Dec (suc q.entered < q.edges)
-          → TakenAt q L L' r'
-          → Acts (edges_at q L) full off r' L'
-      go (yes h) (more_due n eN eT ew en er el) =
-          subst (λ (y : Reader). Acts (edges_at q L) full off y L') (sym (er ∙ edge_counts))
-          (grow_acts (edge_at q) F edge_same (front_network q.nodes (suc q.entered) (edge_stored q L.network))
+      go : Dec (suc q.entered < q.edges) → EdgeTaken q L r' L' → Acts (edges_at q L) full off r' L'
+      go (yes h) (more_due n e l) =
+          subst₂ (Acts (edges_at q L) full off) (sym e) (sym l)
+          (grow_acts (edge_at q) F edge_same (edge_counted q) (edge_stored q L.network)
+          (front_network q.nodes (suc q.entered) (edge_stored q L.network))
           edge_brings
           (λ w. omega (arith, w.all_edges, h, front_edges edge_columns q.nodes (suc q.entered) (omega (arith, h, d.fine.few_edges))))
           (at_edges refl (record { fine = d.fine; more = omega (arith, h, edge_one) })
-          (ap₂ (λ i (N : Network). building q.nodes q.edges (front_network q.nodes i N)) (sym edge_one) (sym (eN ∙ edge_goes))))
-          (subst EnoughColumns (sym (eN ∙ edge_goes)) edge_columns) refl refl refl refl eT ej ew en el)
-      go (yes h) (closes i eN c) = absurd (omega (arith, (subst NetworkIn edge_counts i).no_edge_due, h, edge_one))
-      go (no h) (more_due n eN eT ew en er el) = absurd (n (in_by edge_counts refl (omega (arith, h, edge_one))))
-      go (no h) (closes i eN c) =
+          (ap (λ i. building q.nodes q.edges (front_network q.nodes i (edge_stored q L.network))) (sym edge_one)))
+          edge_columns refl refl refl refl)
+      go (yes h) (closes i c) = absurd (omega (arith, i.no_edge_due, h, edge_one))
+      go (no h) (more_due n e l) = absurd (n (record { no_node_due = refl; no_edge_due = omega (arith, h, edge_one) }))
+      go (no h) (closes i c) =
           let all_in : suc q.entered ≡ q.edges = omega (arith, h, d.more) in
-          close_acts L' (edge_at q) F edge_same d.fine
+          close_acts (edge_stored q L.network) (edge_at q) F edge_same d.fine
           (subst (Brings q.nodes q.edges (front_network q.nodes q.entered L.network) (edge_at q))
-          (ap₂ (λ j (N : Network). front_network q.nodes j N) all_in (sym (eN ∙ edge_goes)))
+          (ap (λ j. front_network q.nodes j (edge_stored q L.network)) all_in)
           edge_brings)
-          (subst EnoughColumns (sym (eN ∙ edge_goes)) edge_columns) ej (entering q 2 (one_more q)) refl refl refl refl refl
-          (subst
-          (λ (p : Reader). ClosedAt p L L' r')
-          edge_counts c)
+          edge_columns (edge_counted q) refl refl refl refl refl c

@@ -11,7 +11,8 @@ use lib.Seq.{take_at}
 use Rattle.network.specs.declared.answer.Answer.{Answer}
 use Rattle.network.specs.declared.rows.Row.{Row}
 use Rattle.network.specs.Network.{Network, nodes, edges, Sized, Sound}
-use Rattle.network.specs.Sheet.{Sheet}
+use Rattle.network.specs.declared.sheet.Sheet.{Sheet}
+use Rattle.network.specs.Lent.{front_network}
 use Rattle.network.specs.Rows.{Columns, Even, RowsSized, SoundTable, table}
 use Rattle.network.specs.Journey.{Way, stay, ride, change, Journey, Least}
 use Rattle.network.specs.Refusal.{Rule, Refused, Passed, sizes, entries_order, shortcut_rows, sheet_rules, question_order, sheet_order}
@@ -25,17 +26,20 @@ use Rattle.legs.specs.Answers.{Travelled, no_room, found, Contracted, refuses, s
 use Rattle.legs.specs.Answers
 use Rattle.preparation.proofs.PreparedSound.{prepared_sound}
 use Rattle.contraction.proofs.UpDownExact.{least_plain, none_same}
+use Rattle.records.specs.declared.reader.Kind.TheVariants as kind
+use Rattle.records.specs.declared.reader.Stage as of_reader
+use Rattle.records.specs.declared.reader.Stage.TheVariants.{Asking}
 use Rattle.records.specs.declared.reader.Reader.{Reader}
 use Rattle.card.specs.Records.{question, bytes_of}
 use Rattle.lines.specs.Text.{journey_line, refusal_line, line_of}
 use Rattle.card.specs.Stream.{Stage, asking, Reply, names_no_node, no_journey, travels, asks}
-use Rattle.records.specs.Reader.{word, byte_at, size, done}
-use Rattle.card.specs.Reading.{Lent, Told, front_network, stage_after, Asked}
+use Rattle.records.specs.Reader.{word, byte_at, done}
+use Rattle.card.specs.Reading.{Lent, Told, stage_after, Asked}
 use Rattle.card.specs.Running.{EnoughColumns, Enough}
 use Rattle.lines.proofs.Lines.{refusal_most, journey_most}
 use Rattle.card.proofs.RecordBytes.{question_bytes}
 use Rattle.card.proofs.ToldLines.{told_text, told_size}
-use Rattle.card.proofs.Invariant.{core, Accepted, network_at, rows_at, sheet_at, AcceptedAt, At, at_asking, Full, full_entries, full_bytes, goes, Acts, after_record}
+use Rattle.card.proofs.Invariant.{core, Accepted, network_at, rows_at, AcceptedAt, At, at_asking, Full, full_entries, full_bytes, full_first, goes, Acts, after_record}
 
 -- behind rules that are kept, a refusal is one of the others
 refused_last : (rules others : List Rule) → Singles rules → Passed rules → (n p : ℕ) → Refused (rules ++ others) n p → Refused others n p
@@ -62,7 +66,7 @@ refused_line number place legs n = ap (λ (b : Bool). cond b (journey_line 0 0 l
 
 -- the stage in which questions are asked
 abbrev pub asking_at : Reader → Lent → Stage
-asking_at q L = asking (network_at (core q) L) (sheet_at (core q))
+asking_at q L = asking (network_at (core q) L) q.sheet
 
 abbrev from_at : Reader → ℕ
 from_at q = word (byte_at q 1) (byte_at q 2)
@@ -71,15 +75,14 @@ abbrev to_at : Reader → ℕ
 to_at q = word (byte_at q 3) (byte_at q 4)
 
 -- a reply that is told
-module _ {off : ℕ} {full : List ℕ} {q : Reader} {L : Lent} (F : Full (asking_at q L) off full q L) (k : byte_at q 0 ≡ 5)
-    (a : AcceptedAt (core q) L) (sheet_passed : Passed (sheet_order (sheet_at (core q))))
+module _ {off : ℕ} {full : List ℕ} {q : Reader} {L : Lent} (F : Full kind.Question (asking_at q L) off full q L)
+    (a : AcceptedAt (core q) L) (sheet_passed : Passed (sheet_order q.sheet))
   where
     question_same : full ≡ bytes_of (question (from_at q) (to_at q))
-    unfolding size
-    question_same = sym (question_bytes q.bytes (full_bytes F 5 (ap size k) (omega arith)) k ∙ full_entries F 5 (ap size k) (omega arith))
+    question_same = sym (question_bytes q.bytes (full_bytes F) (full_first F) ∙ full_entries F)
 
-    reply_acts : {r' : Reader} {L' : Lent} {stage : ℕ} {text line : List ℕ} → Told q stage text L.line r' L'.line → stage ≡ 5 → text ≡ line
-        → length line ≤ 32768 → Reply (network_at (core q) L) (sheet_at (core q)) (from_at q) (to_at q) line
+    reply_acts : {r' : Reader} {L' : Lent} {stage : of_reader.Stage} {text line : List ℕ} → Told q stage text L.line r' L'.line → stage ≡ Asking → text ≡ line
+        → length line ≤ 32768 → Reply (network_at (core q) L) q.sheet (from_at q) (to_at q) line
         → L'.network ≡ L.network → L'.shortcuts ≡ L.shortcuts → length L'.journey ≡ length L.journey → length L'.wide ≡ length L.wide
         → length L'.narrow ≡ length L.narrow → Acts (asking_at q L) full off r' L'
     reply_acts {r'} {L'} {stage} {text} {line} t es et short reply eN eT ej ew en = record {
@@ -94,11 +97,11 @@ module _ {off : ℕ} {full : List ℕ} {q : Reader} {L : Lent} (F : Full (asking
       where
         at : At L' (core r') (asking_at q L)
         at =
-            subst (λ (y : Reader). At L' (core y) (asking_at q L)) (sym (t.then ∙ ap (λ (z : ℕ). done q z t.written) es))
+            subst (λ (y : Reader). At L' (core y) (asking_at q L)) (sym (t.then ∙ ap (λ (z : of_reader.Stage). done q z t.written) es))
             (at_asking refl
             (subst₂ (λ (N : Network) (T : Columns). Accepted N T q.nodes q.edges q.shortcuts) (sym eN) (sym eT) a)
             sheet_passed
-            (ap (λ (N : Network). asking (front_network q.nodes q.edges N) (sheet_at (core q))) (sym eN)))
+            (ap (λ (N : Network). asking (front_network q.nodes q.edges N) q.sheet) (sym eN)))
 
         enough : Enough L'
         enough = record {
@@ -125,7 +128,7 @@ module _ {off : ℕ} {full : List ℕ} {q : Reader} {L : Lent} (F : Full (asking
         ∷ work_rooms (network_at (core q) L) (length L.wide) (length L.narrow)
         ∷ (entries_order (network_at (core q) L)
         ++ (shortcut_rows (network_at (core q) L) (table (rows_at (core q) L))
-        ∷ sheet_rules (sheet_at (core q)) ∷ []))
+        ∷ sheet_rules q.sheet ∷ []))
 
     before_kept : Passed rules_before
     before_kept = (
@@ -141,29 +144,36 @@ module _ {off : ℕ} {full : List ℕ} {q : Reader} {L : Lent} (F : Full (asking
 
     before_single : Singles rules_before
     before_single =
-        (whole_single, (whole_single, (each_single, (each_single, (each_single, (each_single, (sheet_single (sheet_at (core q)), tt)))))))
+        (whole_single, (whole_single, (each_single, (each_single, (each_single, (each_single, (sheet_single q.sheet, tt)))))))
 
     -- a question
-    pub question_acts : {r' : Reader} {L' : Lent}
-        → Asked q L.network L.shortcuts L.journey L'.journey L.wide L'.wide L.narrow L'.narrow L.line L'.line r'
-        → L'.network ≡ L.network → L'.shortcuts ≡ L.shortcuts → Acts (asking_at q L) full off r' L'
-    unfolding stage_after
-    question_acts {r'} {L'} asked eN eT = go asked.answers
+    pub question_acts : {r' : Reader} {L' : Lent} → Asked q L r' L' → Acts (asking_at q L) full off r' L'
+    question_acts {r'} {L'} asked = go asked.answered.answers
       where
-        after : (n : ℕ) → asked.answer.number ≡ n → stage_after asked.answer.number ≡ stage_after n
+        answer : Answer
+        answer = asked.answered.answer
+
+        after : (n : ℕ) → answer.number ≡ n → stage_after answer.number ≡ stage_after n
         after n e = ap stage_after e
 
-        travelled : Passed (rows_order (network_at (core q) L) (rows_at (core q) L) (sheet_at (core q)) (from_at q) (to_at q) (length L.wide)
+        replied : {line : List ℕ} → stage_after answer.number ≡ Asking → line_of answer (take answer.count L'.journey) ≡ line
+            → length line ≤ 32768 → Reply (network_at (core q) L) q.sheet (from_at q) (to_at q) line
+            → length L'.journey ≡ length L.journey → length L'.wide ≡ length L.wide → length L'.narrow ≡ length L.narrow
+            → Acts (asking_at q L) full off r' L'
+        replied es et short reply ej ew en =
+            reply_acts asked.answered.tells es et short reply asked.network_stands asked.shortcuts_stand ej ew en
+
+        travelled : Passed (rows_order (network_at (core q) L) (rows_at (core q) L) q.sheet (from_at q) (to_at q) (length L.wide)
             (length L.narrow))
             → length L'.wide ≡ length L.wide → length L'.narrow ≡ length L.narrow
-            → Travelled (network_at (core q) L) a.rows (sheet_at (core q)) (from_at q) (to_at q) L.journey L'.journey asked.answer
+            → Travelled (network_at (core q) L) a.rows q.sheet (from_at q) (to_at q) L.journey L'.journey answer
             → Acts (asking_at q L) full off r' L'
         travelled ps ew en (Answers.no_journey none ea ej) =
-            reply_acts asked.tells (after 7 (ap (λ (y : Answer). y.number) ea))
+            replied (after 7 (ap (λ (y : Answer). y.number) ea))
             (ap (λ (y : Answer). line_of y (take y.count L'.journey)) ea) (omega (arith, refusal_most 7 0 (omega arith) (omega arith)))
             (no_journey (ps.1.1.1.1.1.1.1.0, tt)
             ((none_same sound a.prepared ps.1.1.1.1.1.1.1.0.0 ps.1.1.1.1.1.1.1.0.1).1 none))
-            eN eT (ap length ej) ew en
+            (ap length ej) ew en
         travelled ps ew en (no_room {w} least few ea ej) =
             absurd (omega (
               arith,
@@ -173,11 +183,11 @@ module _ {off : ℕ} {full : List ℕ} {q : Reader} {L : Lent} (F : Full (asking
                   (least_plain sound a.prepared ps.1.1.1.1.1.1.1.0.0 ps.1.1.1.1.1.1.1.0.1 least)).few_edges,
             ))
         travelled ps ew en (found {w} {legs} least room ea j wt len ej) =
-            let plain : Least (network_at (core q) L) [] (Journey (network_at (core q) L) [] (sheet_at (core q)) (from_at q) (to_at q)) w =
+            let plain : Least (network_at (core q) L) [] (Journey (network_at (core q) L) [] q.sheet (from_at q) (to_at q)) w =
             least_plain sound a.prepared ps.1.1.1.1.1.1.1.0.0 ps.1.1.1.1.1.1.1.0.1 least in
-            let bounds : BestBounds (network_at (core q) L) (sheet_at (core q)) (from_at q) (to_at q) w =
+            let bounds : BestBounds (network_at (core q) L) q.sheet (from_at q) (to_at q) w =
             best_bounds sound sheet_passed.0 plain in
-            reply_acts asked.tells (after 0 (ap (λ (y : Answer). y.number) ea))
+            replied (after 0 (ap (λ (y : Answer). y.number) ea))
             (ap (λ (y : Answer). line_of y (take y.count L'.journey)) ea
             ∙ ap (journey_line w.time w.edges) (ap (take w.edges) ej ∙ take_at legs (drop (length legs) L.journey) w.edges len))
             (omega (
@@ -188,7 +198,6 @@ module _ {off : ℕ} {full : List ℕ} {q : Reader} {L : Lent} (F : Full (asking
               bounds.few_edges,
             ))
             (travels (ps.1.1.1.1.1.1.1.0, tt) plain j wt)
-            eN eT
             (ap length ej ∙ omega (
               arith,
               length-append legs (drop (length legs) L.journey),
@@ -198,8 +207,8 @@ module _ {off : ℕ} {full : List ℕ} {q : Reader} {L : Lent} (F : Full (asking
               room,
             )) ew en
 
-        go : Contracted (network_at (core q) L) (rows_at (core q) L) (sheet_at (core q))
-            (from_at q) (to_at q) L.journey L'.journey L.wide L'.wide L.narrow L'.narrow asked.answer
+        go : Contracted (network_at (core q) L) (rows_at (core q) L) q.sheet
+            (from_at q) (to_at q) L.journey L'.journey L.wide L'.wide L.narrow L'.narrow answer
             → Acts (asking_at q L) full off r' L'
         go (refuses {number = number} {place = place} f ea ej u) =
             let g : Refused (question_order (nodes (network_at (core q) L)) (from_at q) (to_at q)) number place =
@@ -207,15 +216,15 @@ module _ {off : ℕ} {full : List ℕ} {q : Reader} {L : Lent} (F : Full (asking
             number place f in
             let h : (number ≡ 6) × (place ≤ 1) =
             question_refusal (nodes (network_at (core q) L)) (from_at q) (to_at q) number place g in
-            reply_acts asked.tells (after 6 (ap (λ (y : Answer). y.number) ea ∙ h.0))
+            replied (after 6 (ap (λ (y : Answer). y.number) ea ∙ h.0))
             (ap (λ (y : Answer). line_of y (take y.count L'.journey)) ea ∙ refused_line number place [] (λ z. omega (arith, z, h.0)))
             (omega (arith, refusal_most number place (omega (arith, h.0)) (omega (arith, h.1))))
-            (names_no_node g) eN eT (ap length ej) (ap length u.wide_same) (ap length u.narrow_same)
+            (names_no_node g) (ap length ej) (ap length u.wide_same) (ap length u.narrow_same)
         go (searches ps t z) =
             travelled ps
             (ap length z.wide_zero ∙ length-replicate {A = ℕ} (length L.wide) 0)
             (ap length z.narrow_zero ∙ length-replicate {A = ℕ} (length L.narrow) 0)
             (subst
-            (λ (ss : List Row). Travelled (network_at (core q) L) ss (sheet_at (core q)) (from_at q) (to_at q) L.journey L'.journey
-            asked.answer)
+            (λ (ss : List Row). Travelled (network_at (core q) L) ss q.sheet (from_at q) (to_at q) L.journey L'.journey
+            answer)
             a.shows t)

@@ -6,7 +6,9 @@ use native.Mathlib.Omega.{arith}
 use lib.ListN.{length, get_or, take, drop, replicate, length-append, length-replicate, get_or-append}
 use lib.Seq.{drop-cons, take_all}
 use Rattle.card.specs.Records.{Record, head, node, edge, sheet, state, question, end, bytes_of, Cut}
-use Rattle.records.specs.Reader.{word, size}
+use Rattle.records.specs.declared.reader.Kind.{Kind}
+use Rattle.records.specs.declared.reader.Kind.TheVariants as kind
+use Rattle.records.specs.Reader.{code_of, word, size_of}
 use Rattle.card.specs.Running.{Bytes}
 
 high_byte : (high low : ℕ) → low < 256 → word high low / 256 ≡ high
@@ -14,9 +16,6 @@ high_byte high low h = omega arith
 
 low_byte : (high low : ℕ) → low < 256 → word high low % 256 ≡ low
 low_byte high low h = omega arith
-
-pub word_below : (high low : ℕ) → high < 256 → low < 256 → word high low < 65536
-word_below high low h l = omega arith
 
 -- n entries from i on
 abbrev pub entries : (n i : ℕ) → List ℕ → List ℕ
@@ -89,16 +88,6 @@ zero_bytes : (n : ℕ) → Bytes (replicate n 0)
 zero_bytes zero = tt
 zero_bytes (suc n) = (omega arith, zero_bytes n)
 
--- the kinds that there are
-pub data Known (kind : ℕ) : Type 0 where
-  known_end : kind ≡ 0 → Known kind
-  known_head : kind ≡ 1 → Known kind
-  known_node : kind ≡ 2 → Known kind
-  known_edge : kind ≡ 3 → Known kind
-  known_state : kind ≡ 4 → Known kind
-  known_question : kind ≡ 5 → Known kind
-  known_sheet : kind ≡ 6 → Known kind
-
 -- Whole bytes of a known kind are those of a record.
 pub record Written (bytes : List ℕ) : Type 0 where
   pub whole : Record
@@ -110,23 +99,18 @@ all_entries n l h = entries_front n l (omega arith) ∙ take_all n l (omega arit
 bytes_entries : (n : ℕ) (l : List ℕ) → length l ≡ n → Bytes l → Bytes (entries n 0 l)
 bytes_entries n l h b = subst Bytes (sym (all_entries n l h)) b
 
-pub known_written : (l : List ℕ) → Bytes l → Known (get_or l 0 0) → length l ≡ size (get_or l 0 0) → Written l
-unfolding size
-known_written l b (known_end k) h = record { whole = end; same = end_bytes l k ∙ all_entries 1 l (h ∙ ap size k) }
-known_written l b (known_head k) h =
-    record { whole = head _ _; same = head_bytes l (bytes_entries 5 l (h ∙ ap size k) b) k ∙ all_entries 5 l (h ∙ ap size k) }
-known_written l b (known_node k) h =
-    record { whole = node _ _; same = node_bytes l (bytes_entries 4 l (h ∙ ap size k) b) k ∙ all_entries 4 l (h ∙ ap size k) }
-known_written l b (known_edge k) h =
-    record { whole = edge _ _ _ _; same = edge_bytes l (bytes_entries 8 l (h ∙ ap size k) b) k ∙ all_entries 8 l (h ∙ ap size k) }
-known_written l b (known_state k) h = record { whole = state _ _ _; same = state_bytes l k ∙ all_entries 4 l (h ∙ ap size k) }
-known_written l b (known_question k) h =
-    record { whole = question _ _; same = question_bytes l (bytes_entries 5 l (h ∙ ap size k) b) k ∙ all_entries 5 l (h ∙ ap size k) }
-known_written l b (known_sheet k) h = record { whole = sheet _; same = sheet_bytes l k ∙ all_entries 2 l (h ∙ ap size k) }
+pub known_written : (k : Kind) (l : List ℕ) → Bytes l → code_of k ≡ get_or l 0 0 → length l ≡ size_of k → Written l
+known_written kind.End l b c h = record { whole = end; same = end_bytes l (sym c) ∙ all_entries 1 l h }
+known_written kind.Head l b c h = record { whole = head _ _; same = head_bytes l (bytes_entries 5 l h b) (sym c) ∙ all_entries 5 l h }
+known_written kind.Node l b c h = record { whole = node _ _; same = node_bytes l (bytes_entries 4 l h b) (sym c) ∙ all_entries 4 l h }
+known_written kind.Edge l b c h = record { whole = edge _ _ _ _; same = edge_bytes l (bytes_entries 8 l h b) (sym c) ∙ all_entries 8 l h }
+known_written kind.State l b c h = record { whole = state _ _ _; same = state_bytes l (sym c) ∙ all_entries 4 l h }
+known_written kind.Question l b c h = record { whole = question _ _; same = question_bytes l (bytes_entries 5 l h b) (sym c) ∙ all_entries 5 l h }
+known_written kind.Sheet l b c h = record { whole = sheet _; same = sheet_bytes l (sym c) ∙ all_entries 2 l h }
 
 -- Too few bytes of a known kind are a record that is cut.
-pub known_cut : (l : List ℕ) → Bytes l → Known (get_or l 0 0) → 0 < length l → length l < size (get_or l 0 0) → Cut l
-known_cut l b k some few = record {
+pub known_cut : (k : Kind) (l : List ℕ) → Bytes l → code_of k ≡ get_or l 0 0 → 0 < length l → length l < size_of k → Cut l
+known_cut k l b c some few = record {
   whole = w.whole;
   missing = rest;
   some_there = some;
@@ -135,14 +119,12 @@ known_cut l b k some few = record {
 }
   where
     rest : List ℕ
-    rest = replicate (size (get_or l 0 0) - length l) 0
+    rest = replicate (size_of k - length l) 0
 
-    rest_length : length rest ≡ size (get_or l 0 0) - length l
-    rest_length = length-replicate (size (get_or l 0 0) - length l) 0
-
-    first_same : get_or (l ++ rest) 0 0 ≡ get_or l 0 0
-    first_same = get_or-append l rest 0 0 some
+    rest_length : length rest ≡ size_of k - length l
+    rest_length = length-replicate (size_of k - length l) 0
 
     w : Written (l ++ rest)
-    w = known_written (l ++ rest) (bytes_append l rest b (zero_bytes (size (get_or l 0 0) - length l))) (subst Known (sym first_same) k)
-        (length-append l rest ∙ omega (arith, rest_length) ∙ ap size (sym first_same))
+    w = known_written k (l ++ rest) (bytes_append l rest b (zero_bytes (size_of k - length l)))
+        (c ∙ sym (get_or-append l rest 0 0 some))
+        (length-append l rest ∙ omega (arith, rest_length))

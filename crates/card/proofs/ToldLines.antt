@@ -8,6 +8,7 @@ use borrow.Author.Tests.{ne_eqb}
 use lib.ListN.{length, take, drop, length-append, length-drop}
 use lib.Seq.{take-append_seam}
 use Rattle.network.specs.Answers.{shown}
+use Rattle.records.specs.declared.reader.Stage.{Stage}
 use Rattle.records.specs.declared.reader.Reader.{Reader}
 use Rattle.lines.specs.Text.{journey_line, refusal_line, line_of, LineWritten, fits, short}
 use Rattle.card.specs.Reading.{Told, Refusing}
@@ -27,7 +28,7 @@ written_front {text} {line} {line'} {n} (fits a b c) h =
     ap (λ k. take k line') b ∙ ap (take (length text)) c ∙ take-append_seam text (drop n line)
 written_front (short a b c) h = absurd (omega arith)
 
-module _ {r r' : Reader} {stage : ℕ} {text line line' : List ℕ} (t : Told r stage text line r' line') where
+module _ {r r' : Reader} {stage : Stage} {text line line' : List ℕ} (t : Told r stage text line r' line') where
   -- where there is room, the text is told
   pub told_text : length text ≤ length line → told_line r' line' ≡ text
   told_text h = ap (λ (x : Reader). take x.written line') t.then ∙ written_front t.writes h

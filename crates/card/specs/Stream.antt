@@ -5,7 +5,8 @@ use Rattle.network.specs.declared.weight.Weight.{Weight}
 use Rattle.network.specs.declared.rows.Row.{Row}
 use Rattle.network.specs.declared.sheet.State.{State}
 use Rattle.network.specs.Network.{Network, network, nodes, edges}
-use Rattle.network.specs.Sheet.{Sheet, sheet_of, no_state, Counted}
+use Rattle.network.specs.declared.sheet.Sheet.{Sheet}
+use Rattle.network.specs.Sheet.{sheet_of, no_state, Counted}
 use Rattle.network.specs.Journey.{weight, Journey, Least, None}
 use Rattle.network.specs.Refusal.{Refused, Passed, network_order, sheet_order, question_order}
 use Rattle.preparation.specs.Contraction.{Prepared}

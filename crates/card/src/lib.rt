@@ -3,7 +3,7 @@
 
 mod asking;
 mod building;
-mod fronts;
+pub mod lent;
 mod listing;
 pub mod stream;
 mod telling;

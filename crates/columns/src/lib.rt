@@ -1,81 +1,104 @@
 // Reads and writes of lent columns: past the end a read gives 0 and a write changes nothing, so no caller owes an index.
 #![tactic(auto)]
 
-ghost use Rattle.std.specs.Prelude.{◌≡◌, ◌<◌, get_or, set};
+ghost use Rattle.std.specs.Prelude.{◌≡◌, ◌<◌, get_or, set, take};
 
 pub mod rooms;
 
-pub fn at8(bytes: &[u8], i: usize) -> u8
-    ensures { result ≡ get_or bytes.now i 0 }
-{
-    if bytes.len() <= i {
-        return 0u8;
-    }
-    bytes[i]
+// What a column holds: a number of some width, with the 0 that is read past the column's end.
+pub trait Entry: Copy {
+    ghost zero: { Self };
+
+    fn zero() -> Self
+        ensures { result ≡ zero };
+
+    // A copy is made without fail, and is the number itself.
+    ghost clones: { (x : Self) → Self.is_infallible x };
+
+    ghost copies: { (x y : Self) → Self.is_clone x y → y ≡ x };
 }
 
-pub fn at16(shorts: &[u16], i: usize) -> u16
-    ensures { result ≡ get_or shorts.now i 0 }
-{
-    if shorts.len() <= i {
-        return 0u16;
+impl Entry for u8 {
+    ghost zero = { 0 };
+
+    fn zero() -> u8 {
+        0
     }
-    shorts[i]
+
+    ghost clones = { λ _. tt };
+
+    ghost copies = { λ _ _ same. same };
 }
 
-pub fn at32(words: &[u32], i: usize) -> u32
-    ensures { result ≡ get_or words.now i 0 }
-{
-    if words.len() <= i {
-        return 0u32;
+impl Entry for u16 {
+    ghost zero = { 0 };
+
+    fn zero() -> u16 {
+        0
     }
-    words[i]
+
+    ghost clones = { λ _. tt };
+
+    ghost copies = { λ _ _ same. same };
 }
 
-pub fn at64(longs: &[u64], i: usize) -> u64
-    ensures { result ≡ get_or longs.now i 0 }
-{
-    if longs.len() <= i {
-        return 0u64;
+impl Entry for u32 {
+    ghost zero = { 0 };
+
+    fn zero() -> u32 {
+        0
     }
-    longs[i]
+
+    ghost clones = { λ _. tt };
+
+    ghost copies = { λ _ _ same. same };
+}
+
+impl Entry for u64 {
+    ghost zero = { 0 };
+
+    fn zero() -> u64 {
+        0
+    }
+
+    ghost clones = { λ _. tt };
+
+    ghost copies = { λ _ _ same. same };
+}
+
+// The entry at i.
+pub fn at<T: Entry>(column: &[T], i: usize) -> T
+    ensures { result ≡ get_or column.now i T.zero }
+{
+    if column.len() <= i {
+        return T::zero();
+    }
+    column[i]
 }
 
 // A 16-bit entry as a node's number, or a row's.
 pub fn node_at(shorts: &[u16], i: usize) -> usize
     ensures { (result ≡ get_or shorts.now i 0) × (result < 65536) }
 {
-    at16(shorts, i) as usize
+    at(shorts, i) as usize
 }
 
-pub fn put8(bytes: &mut [u8], i: usize, value: u8)
-    ensures { bytes.new ≡ set bytes.old i value }
+// Writes the entry at i.
+pub fn put<T: Entry>(column: &mut [T], i: usize, value: T)
+    ensures { column.new ≡ set column.old i value }
 {
-    if i < bytes.len() {
-        bytes[i] = value;
+    if i < column.len() {
+        column[i] = value;
     }
 }
 
-pub fn put16(shorts: &mut [u16], i: usize, value: u16)
-    ensures { shorts.new ≡ set shorts.old i value }
+// The front of a column: n entries, or all where there are fewer.
+pub fn front<T>(column: &[T], n: usize) -> &[T]
+    ensures { result.now ≡ take n column.now }
 {
-    if i < shorts.len() {
-        shorts[i] = value;
-    }
-}
-
-pub fn put32(words: &mut [u32], i: usize, value: u32)
-    ensures { words.new ≡ set words.old i value }
-{
-    if i < words.len() {
-        words[i] = value;
-    }
-}
-
-pub fn put64(longs: &mut [u64], i: usize, value: u64)
-    ensures { longs.new ≡ set longs.old i value }
-{
-    if i < longs.len() {
-        longs[i] = value;
+    if n < column.len() {
+        &column[..n]
+    } else {
+        column
     }
 }

@@ -5,7 +5,7 @@ use lib.ListN.{length, replicate}
 use Rattle.network.specs.declared.sheet.State.{State}
 use Rattle.network.specs.declared.rows.Row.{Row}
 use Rattle.network.specs.Network.{Network, nodes}
-use Rattle.network.specs.Sheet.{Sheet}
+use Rattle.network.specs.declared.sheet.Sheet.{Sheet}
 use Rattle.network.specs.Rows.{rows}
 use Rattle.network.specs.Journey.{Journey, Least, None}
 use Rattle.network.specs.Refusal.{Refused, Passed}

@@ -5,7 +5,7 @@ use lib.Dec.{T}
 use lib.ListN.{length}
 use Rattle.network.specs.Weight.{◌⊕◌}
 use Rattle.network.specs.Network.{Network, nodes}
-use Rattle.network.specs.Sheet.{Sheet}
+use Rattle.network.specs.declared.sheet.Sheet.{Sheet}
 use Rattle.network.specs.Rows.{rows}
 use Rattle.network.specs.Refusal.{Passed}
 use Rattle.search.specs.Orders.{room_order, plain_order}

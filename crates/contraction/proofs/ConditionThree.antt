@@ -7,14 +7,14 @@ use lib.ListN.{length, drop}
 use Rattle.network.specs.declared.answer.Answer.{Answer}
 use Rattle.network.specs.declared.weight.Weight.{Weight}
 use Rattle.network.specs.Network.{Network}
-use Rattle.network.specs.Sheet.{Sheet}
+use Rattle.network.specs.declared.sheet.Sheet.{Sheet}
 use Rattle.network.specs.Rows.{Columns}
 use Rattle.network.specs.Journey.{weight, Journey}
 use Rattle.search.specs.Orders.{plain_order}
 use Rattle.search.specs.Answers.{Answered}
 use Rattle.legs.specs.Answers.{no_journey, no_room, found, Contracted, searches, refuses}
 use Rattle.preparation.specs.Answers.{PreparedInto}
-use Rattle.preparation.specs.Preparing.{front}
+use Rattle.network.specs.Lent.{front_columns}
 use Rattle.legs.proofs.RowsInPlace.{refused_not_zero}
 use Rattle.preparation.proofs.TableMade.{table_made}
 use Rattle.contraction.proofs.ContractedPlain.{plain_same}
@@ -61,7 +61,7 @@ pub condition_three : {N : Network} {T T' : Columns} {S : Sheet} {from to writte
     → PreparedInto N T T' wide wide' narrow narrow' p → p.number ≡ 0
     → Answered (plain_order N S from to (length wide₁) (length narrow₁)) N [] (Journey N [] S from to) journey₁ journey₁' wide₁ wide₁'
     narrow₁ narrow₁' a written
-    → Contracted N (front p.count T') S from to journey₂ journey₂' wide₂ wide₂' narrow₂ narrow₂' b
+    → Contracted N (front_columns p.count T') S from to journey₂ journey₂' wide₂ wide₂' narrow₂ narrow₂' b
     → length journey₁ ≡ length journey₂ → length wide₁ ≡ length wide₂ → length narrow₁ ≡ length narrow₂
     → Agrees N S from to a b journey₂ journey₂'
 condition_three {N} {S = S} {from} {to} {a = a} {b} {journey₂ = journey₂} {journey₂'} prepared z plain contracted j w n =

@@ -7,7 +7,7 @@ use lib.ListN.{length, drop, replicate}
 use Rattle.network.specs.declared.answer.Answer.{Answer}
 use Rattle.network.specs.declared.rows.Row.{Row}
 use Rattle.network.specs.Network.{Network, nodes}
-use Rattle.network.specs.Sheet.{Sheet}
+use Rattle.network.specs.declared.sheet.Sheet.{Sheet}
 use Rattle.network.specs.Rows.{Columns, table}
 use Rattle.network.specs.Journey.{Journey}
 use Rattle.network.specs.Refusal.{Rule}

@@ -10,7 +10,8 @@ use Rattle.network.specs.declared.weight.Weight.{Weight}
 use Rattle.network.specs.declared.rows.Row.{Row}
 use Rattle.network.specs.Weight.{zero_weight, ◌⊕◌}
 use Rattle.network.specs.Network.{Network, Sound}
-use Rattle.network.specs.Sheet.{Sheet, MayRide, MayChange, Initial, Final}
+use Rattle.network.specs.declared.sheet.Sheet.{Sheet}
+use Rattle.network.specs.Sheet.{MayRide, MayChange, Initial, Final}
 use Rattle.network.specs.Rows.{row, rows, cost}
 use Rattle.network.specs.Journey.{Way, stay, ride, change, along, weight, Journey}
 use Rattle.network.proofs.WeightLaws.{⊕-time}

@@ -11,7 +11,8 @@ use Rattle.network.specs.declared.rows.Row.{Row}
 use Rattle.network.specs.Weight.{◌⊕◌, zero_weight, Lighter, sooner, shorter}
 use Rattle.network.specs.Order.{Before, lower_rank, same_rank}
 use Rattle.network.specs.Network.{Network}
-use Rattle.network.specs.Sheet.{Sheet, entry, Bit, MayRide, MayChange, Initial, Final}
+use Rattle.network.specs.declared.sheet.Sheet.{Sheet}
+use Rattle.network.specs.Sheet.{entry, Bit, MayRide, MayChange, Initial, Final}
 use Rattle.network.specs.Rows.{row, rows, cost}
 use Rattle.network.specs.Journey.{Way, stay, ride, change, along, weight, Journey, Least, None}
 use Rattle.network.proofs.WeightLaws.{weight-≡, ◌≼◌, below, level, ≼_refl, ≼_trans, ≼-not_lighter, ≼-mono, lighter-≼-trans}

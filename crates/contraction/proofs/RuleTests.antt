@@ -19,7 +19,8 @@ use Rattle.network.specs.Network.{
   EdgeFine,
   TransferFine,
 }
-use Rattle.network.specs.Sheet.{Sheet, entry, Counted, StateFine}
+use Rattle.network.specs.declared.sheet.Sheet.{Sheet}
+use Rattle.network.specs.Sheet.{entry, Counted, StateFine}
 use Rattle.network.specs.Refusal.{Rule, Refused, Passed, Lowest, whole_rule, each_rule, sheet_rules, question}
 use Rattle.search.specs.Orders.{Roomy, room_order, plain_order}
 use Rattle.contraction.proofs.Tests.{

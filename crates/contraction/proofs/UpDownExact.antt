@@ -9,7 +9,8 @@ use Rattle.network.specs.declared.rows.Row.{Row}
 use Rattle.network.specs.Weight.{◌⊕◌, zero_weight, Lighter}
 use Rattle.network.specs.Order.{Before}
 use Rattle.network.specs.Network.{Network, nodes, node_mode, Sound}
-use Rattle.network.specs.Sheet.{Sheet, MayRide, MayChange}
+use Rattle.network.specs.declared.sheet.Sheet.{Sheet}
+use Rattle.network.specs.Sheet.{MayRide, MayChange}
 use Rattle.network.specs.Rows.{row}
 use Rattle.network.specs.Journey.{Way, stay, ride, change, weight, Journey, Least, None}
 use Rattle.network.proofs.WeightLaws.{◌≼◌, ≼_refl, ≡-≼, ≼_trans, ≼-mono, ⊕-assoc, zero-≼, ≼-lighter, not_lighter-≼, ≼-antisym}

@@ -4,7 +4,8 @@ use Rattle.std.specs.Prelude.{◌≡◌, List, [], ◌∷◌, ℕ, ◌+◌, ◌*
 use Rattle.network.specs.declared.answer.Answer.{Answer}
 use Rattle.network.specs.declared.sheet.State.{State}
 use Rattle.network.specs.Network.{Network}
-use Rattle.network.specs.Sheet.{Sheet, sheet_of}
+use Rattle.network.specs.declared.sheet.Sheet.{Sheet}
+use Rattle.network.specs.Sheet.{sheet_of}
 use Rattle.network.specs.Rows.{Columns}
 use Rattle.network.specs.Journey.{Journey}
 use Rattle.network.specs.Answers.{shown}

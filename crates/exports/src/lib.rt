@@ -17,6 +17,8 @@ use contraction::opening::open_into;
 use contraction::prepare::prepare;
 use network::answer::Answer;
 use network::check::check_network;
+use network::lent::{Network, ShortcutRoom, Shortcuts};
+use network::refusal::Fault;
 use search::plain::search_plain;
 
 // Modes, next and ends of eight states.
@@ -34,7 +36,15 @@ pub extern "C" fn journeys_check(
 ) -> Answer
     ensures { Checked (network_order (network node_modes.now node_ranks.now tails.now heads.now modes.now lengths.now)) result }
 {
-    check_network(node_modes, node_ranks, tails, heads, modes, lengths)
+    let network = Network {
+        node_modes,
+        node_ranks,
+        tails,
+        heads,
+        modes,
+        lengths,
+    };
+    check_network(&network).into()
 }
 
 // Writes the shortcuts of the network to the lent rows, and zeroes the rows behind them.
@@ -58,23 +68,24 @@ pub extern "C" fn journeys_prepare(
 ) -> Answer
     ensures { PreparedInto (network node_modes.now node_ranks.now tails.now heads.now modes.now lengths.now) (columns shortcut_tails.old shortcut_heads.old shortcut_modes.old shortcut_lengths.old shortcut_counts.old shortcut_firsts.old shortcut_seconds.old) (columns shortcut_tails.new shortcut_heads.new shortcut_modes.new shortcut_lengths.new shortcut_counts.new shortcut_firsts.new shortcut_seconds.new) wide.old wide.new narrow.old narrow.new result }
 {
-    prepare(
+    let network = Network {
         node_modes,
         node_ranks,
         tails,
         heads,
         modes,
         lengths,
-        shortcut_tails,
-        shortcut_heads,
-        shortcut_modes,
-        shortcut_lengths,
-        shortcut_counts,
-        shortcut_firsts,
-        shortcut_seconds,
-        wide,
-        narrow,
-    )
+    };
+    let mut room = ShortcutRoom {
+        tails: shortcut_tails,
+        heads: shortcut_heads,
+        modes: shortcut_modes,
+        lengths: shortcut_lengths,
+        counts: shortcut_counts,
+        firsts: shortcut_firsts,
+        seconds: shortcut_seconds,
+    };
+    prepare(&network, &mut room, wide, narrow)
 }
 
 // The plain search, over the edges alone. The sheet's length is tested before all else.
@@ -97,23 +108,18 @@ pub extern "C" fn journeys_plain(
     ensures { PlainCalled (network node_modes.now node_ranks.now tails.now heads.now modes.now lengths.now) sheet.now states from to journey.old journey.new wide.old wide.new narrow.old narrow.new result }
 {
     if sheet.len() != SHEET_BYTES {
-        return Answer::show(Answer::SIZES, 0);
+        return Fault::Sizes.at(0).into();
     }
-    search_plain(
+    let network = Network {
         node_modes,
         node_ranks,
         tails,
         heads,
         modes,
         lengths,
-        read_sheet(sheet),
-        states,
-        from,
-        to,
-        journey,
-        wide,
-        narrow,
-    )
+    };
+    let sheet = read_sheet(sheet, states);
+    search_plain(&network, &sheet, from, to, journey, wide, narrow)
 }
 
 // The contracted search, over the edges and their shortcuts. The sheet's length is tested before all else.
@@ -143,29 +149,28 @@ pub extern "C" fn journeys_contracted(
     ensures { ContractedCalled (network node_modes.now node_ranks.now tails.now heads.now modes.now lengths.now) (columns shortcut_tails.now shortcut_heads.now shortcut_modes.now shortcut_lengths.now shortcut_counts.now shortcut_firsts.now shortcut_seconds.now) sheet.now states from to journey.old journey.new wide.old wide.new narrow.old narrow.new result }
 {
     if sheet.len() != SHEET_BYTES {
-        return Answer::show(Answer::SIZES, 0);
+        return Fault::Sizes.at(0).into();
     }
-    search_contracted(
+    let network = Network {
         node_modes,
         node_ranks,
         tails,
         heads,
         modes,
         lengths,
-        shortcut_tails,
-        shortcut_heads,
-        shortcut_modes,
-        shortcut_lengths,
-        shortcut_counts,
-        shortcut_firsts,
-        shortcut_seconds,
-        read_sheet(sheet),
-        states,
-        from,
-        to,
-        journey,
-        wide,
-        narrow,
+    };
+    let shortcuts = Shortcuts {
+        tails: shortcut_tails,
+        heads: shortcut_heads,
+        modes: shortcut_modes,
+        lengths: shortcut_lengths,
+        counts: shortcut_counts,
+        firsts: shortcut_firsts,
+        seconds: shortcut_seconds,
+    };
+    let sheet = read_sheet(sheet, states);
+    search_contracted(
+        &network, &shortcuts, &sheet, from, to, journey, wide, narrow,
     )
 }
 
@@ -190,21 +195,22 @@ pub extern "C" fn journeys_open(
 ) -> usize
     ensures { OpenedInto (network node_modes.now node_ranks.now tails.now heads.now modes.now lengths.now) (columns shortcut_tails.now shortcut_heads.now shortcut_modes.now shortcut_lengths.now shortcut_counts.now shortcut_firsts.now shortcut_seconds.now) row room.old result room.new }
 {
-    open_into(
+    let network = Network {
         node_modes,
         node_ranks,
         tails,
         heads,
         modes,
         lengths,
-        shortcut_tails,
-        shortcut_heads,
-        shortcut_modes,
-        shortcut_lengths,
-        shortcut_counts,
-        shortcut_firsts,
-        shortcut_seconds,
-        row,
-        room,
-    )
+    };
+    let shortcuts = Shortcuts {
+        tails: shortcut_tails,
+        heads: shortcut_heads,
+        modes: shortcut_modes,
+        lengths: shortcut_lengths,
+        counts: shortcut_counts,
+        firsts: shortcut_firsts,
+        seconds: shortcut_seconds,
+    };
+    open_into(&network, &shortcuts, row, room)
 }

@@ -11,7 +11,7 @@ use Rattle.network.specs.declared.weight.Weight.{Weight}
 use Rattle.network.specs.declared.rows.Row.{Row}
 use Rattle.network.specs.Weight.{Lighter}
 use Rattle.network.specs.Network.{Network, nodes, Sound}
-use Rattle.network.specs.Sheet.{Sheet}
+use Rattle.network.specs.declared.sheet.Sheet.{Sheet}
 use Rattle.network.specs.Rows.{Columns, SoundTable, table}
 use Rattle.network.specs.Journey.{weight, Least, None}
 use Rattle.network.specs.Answers.{shown}

@@ -5,7 +5,7 @@ use mathlib.Core.List.{List, [], ◌∷◌, ◌++◌}
 use Prim.Native.Nat.{ℕ, zero, suc, ◌+◌, ◌-◌, ◌≤◌, ◌<◌}
 use native.Mathlib.Omega.{arith}
 use native.Mathlib.Decide.{dec_lt}
-use lib.ListN.{length, get_or, set, take, drop, length-append, length-take, length-drop}
+use lib.ListN.{length, get_or, set, length-append}
 use borrow.Author.Tests.{lt-ltb, le-ltb}
 use Rattle.network.specs.Network.{Network, edges}
 use Rattle.network.specs.Rows.{Columns, Even, row, rows, table, SoundTable}
@@ -87,18 +87,6 @@ module _ {m : ℕ} {fs ss : List ℕ} {r room : ℕ} (f : RowFits m fs ss r room
   pub row_written : {l l' : List ℕ} {n : ℕ} → Written (legs m fs ss (get_or fs (r - m) 0) ++ legs m fs ss (get_or ss (r - m) 0)) l n l'
       → Written (legs m fs ss r) l n l'
   row_written w = rw (legs_pair m fs ss f.falling r h f.there) w
-
--- what each of a pair needs
-pub first_fits : {m : ℕ} {fs ss : List ℕ} {a b room : ℕ} → PairFits m fs ss a b room → RowFits m fs ss a room
-first_fits f = record { falling = f.falling; there = f.first_there; room_enough = omega (arith, f.room_enough) }
-
-pub second_fits : {m : ℕ} {fs ss : List ℕ} {a b n k : ℕ} {room room' : List ℕ} → PairFits m fs ss a b (length room)
-    → Written (legs m fs ss a) room n room' → length room' ≡ length room → k ≡ length room' - n → RowFits m fs ss b (length (take k (drop n room')))
-second_fits {n = n} {k = k} {room' = room'} f w e ek = record {
-  falling = f.falling;
-  there = f.second_there;
-  room_enough = omega (arith, f.room_enough, w.counted, length-take k (drop n room'), length-drop n room');
-}
 
 -- the legs that the columns of a table tell are what its rows open to
 module _ {T : Columns} (v : Even T) (N : Network) where

@@ -2,7 +2,6 @@
 pub mod TableLaws
 pub mod OpeningLaws
 -- what the opening functions rest on
-pub mod Accepting
 pub mod RoomParts
 pub mod Legs
 pub mod Openings

@@ -12,7 +12,8 @@ use Rattle.network.specs.declared.weight.Weight.{Weight}
 use Rattle.network.specs.declared.rows.Row.{Row}
 use Rattle.network.specs.Weight.{zero_weight, ◌⊕◌}
 use Rattle.network.specs.Network.{Network, edges, edge_tail, edge_head, edge_mode, Sound}
-use Rattle.network.specs.Sheet.{Sheet, MayRide}
+use Rattle.network.specs.declared.sheet.Sheet.{Sheet}
+use Rattle.network.specs.Sheet.{MayRide}
 use Rattle.network.specs.Rows.{edge_row, row, rows, cost, Joins, SoundRow, SoundTable}
 use Rattle.network.specs.Journey.{Way, stay, ride, change, along, weight, Journey}
 use Rattle.network.proofs.WeightLaws.{⊕-assoc, ⊕-edges}
@@ -163,10 +164,6 @@ module _ {N : Network} {ss : List Row} (t : EachSound N ss) where
   pub opened_as : (r : ℕ) → r < rows N ss → Opened N ss r (opened N ss r)
   opened_as r l = opened_upto (suc r) r (omega arith) l
 
-pub opened_pair : {N : Network} {ss : List Row} → SoundTable N ss → (r : ℕ) → edges N ≤ r → r < rows N ss
-    → opened N ss r ≡ opened N ss (row N ss r).first ++ opened N ss (row N ss r).second
-opened_pair t = opened_children (each_sound t)
-
 pub opened_row : {N : Network} {ss : List Row} → SoundTable N ss → (r : ℕ) → r < rows N ss → Opened N ss r (opened N ss r)
 opened_row t = opened_as (each_sound t)
 
@@ -220,10 +217,6 @@ way_opened {S = S} {rs = rs} s t p = record {
   same_weight = all_weigh t zero_weight rs (way_rows p);
   as_many = omega (arith, all_count t zero_weight rs (way_rows p));
 }
-
-pub opened_way : {N : Network} {ss : List Row} {S : Sheet} {u q v j : ℕ} {rs : List ℕ} → Sound N → SoundTable N ss → Way N ss S u q v j rs
-    → Opens N ss S u q v j rs
-opened_way s t p = way_opened s (each_sound t) p
 
 -- a journey over rows opens to a journey over edges
 pub record OpensJourney (N : Network) (ss : List Row) (S : Sheet) (from to : ℕ) (rs : List ℕ) : Type 0 where

@@ -11,11 +11,11 @@ use Rattle.network.specs.declared.answer.Answer.{Answer}
 use Rattle.network.specs.declared.weight.Weight.{Weight}
 use Rattle.network.specs.declared.rows.Row.{Row}
 use Rattle.network.specs.Network.{Network, edges, Sound}
-use Rattle.network.specs.Sheet.{Sheet}
+use Rattle.network.specs.declared.sheet.Sheet.{Sheet}
 use Rattle.network.specs.Rows.{Columns, rows, table, SoundTable}
 use Rattle.network.specs.Journey.{weight, Journey, Least}
 use Rattle.network.specs.Refusal.{Refused, Passed}
-use Rattle.network.specs.Answers.{row_read, shown, accepts}
+use Rattle.network.specs.Answers.{row_read}
 use Rattle.network.proofs.RowLaws.{read_row, row_fine}
 use Rattle.network.proofs.Pigeonhole.{AllBelow}
 use Rattle.search.specs.UpDown.{UpDownJourney}
@@ -109,18 +109,6 @@ pub record LeftToOpen (N : Network) (ss : List Row) (written count : ℕ) (journ
   pub behind : drop end journey ≡ opened_all N ss (drop i (take written journey₀)) ++ drop count journey₀
 
 module _ {N : Network} {T : Columns} {written count : ℕ} {journey₀ : List ℕ} (s : RowsStand N T written count journey₀) where
-  pub open_start : LeftToOpen N (table T) written count journey₀ journey₀ written count
-  open_start = record {
-    within = omega arith;
-    size = refl;
-    ends = s.counted;
-    front = refl;
-    behind =
-        let e : drop written (take written journey₀) ≡ [] =
-        drop_of_length-le (take written journey₀) {i = written} (omega (arith, length-take written journey₀)) in
-        ap (λ (l : List ℕ). opened_all N (table T) l ++ drop count journey₀) (sym e);
-  }
-
   -- a turn: the row at j is opened, from `begin` on
   module _ {journey : List ℕ} {j end : ℕ} (o : LeftToOpen N (table T) written count journey₀ journey (suc j) end) where
     here : get_or journey j 0 ≡ get_or journey₀ j 0
@@ -238,11 +226,6 @@ module _ {N : Network} {T : Columns} {written count : ℕ} {journey₀ : List �
       subst (λ (k : ℕ). LeftToOpen N (table T) written count journey₀ journey' k begin) (sym z)
       (turn_at o (subst (λ (k : ℕ). LegsBefore N (table T) (get_or journey k 0) end journey begin journey') z b))
 
-  pub open_done : {journey : List ℕ} (i : ℕ) {end : ℕ} → LeftToOpen N (table T) written count journey₀ journey i end → i ≤ 0
-      → journey ≡ opened_all N (table T) (take written journey₀) ++ drop count journey₀
-  open_done {journey} zero o l = ap (λ (k : ℕ). drop k journey) (sym o.ends) ∙ o.behind
-  open_done (suc j) o l = absurd (omega arith)
-
 -- the search over rows, and its rows opened -------------------------------------------------------------------------------------------------------
 
 below_at : (n : ℕ) (rs : List ℕ) → AllBelow n rs → (k : ℕ) → k < length rs → get_or rs k 0 < n
@@ -277,7 +260,7 @@ refused_not_zero N T S from to wide narrow n p = refused_avoids (rows_order N T 
 -- where every rule is kept, the network and the rows are accepted
 pub rows_accepted : (N : Network) (T : Columns) (S : Sheet) (from to wide narrow : ℕ) → Passed (rows_order N T S from to wide narrow) → Table N T
 rows_accepted N T S from to wide narrow q =
-    (rows_ready {N = N} {T = T} {S = S} {from = from} {to = to} {w = wide} {n = narrow} {a = shown 0 0} (accepts refl q) refl).table_sound
+    (rows_ready {N = N} {T = T} {S = S} {from = from} {to = to} {w = wide} {n = narrow} q).table_sound
 
 -- the search over rows found the rows rs of weight w
 record FoundRows (N : Network) (T : Columns) (S : Sheet) (from to : ℕ) (journey journey' wide wide' narrow narrow' : List ℕ) (a : Answer)

@@ -4,7 +4,7 @@ use Rattle.network.specs.declared.answer.Answer.{Answer}
 use Rattle.network.specs.declared.weight.Weight.{Weight}
 use Rattle.network.specs.declared.rows.Row.{Row}
 use Rattle.network.specs.Network.{Network}
-use Rattle.network.specs.Sheet.{Sheet}
+use Rattle.network.specs.declared.sheet.Sheet.{Sheet}
 use Rattle.network.specs.Rows.{Columns, table}
 use Rattle.network.specs.Journey.{weight, Journey, Least, None}
 use Rattle.network.specs.Refusal.{Refused, Passed}

@@ -1,5 +1,8 @@
 -- What the inner functions of this crate promise each other. No entry point's promise rests on these words.
 use Rattle.std.specs.Prelude.{◌≡◌, cond, List, [], ◌∷◌, ◌++◌, ℕ, zero, suc, ◌+◌, ◌-◌, ◌<◌, ◌≤◌, ltb, length, get_or, drop}
+use Rattle.network.specs.Network.{Network}
+use Rattle.network.specs.Rows.{Columns}
+use Rattle.network.specs.Refusal.{Passed, network_order, rows_order}
 
 -- Opening reads of a checked table no more than how many edges there are, m, and the columns of the shortcuts' children. The legs of row r,
 -- told by these; by a number above the row.
@@ -34,3 +37,8 @@ pub record PairFits (m : ℕ) (firsts seconds : List ℕ) (a b room : ℕ) : Typ
 pub record Written (new room : List ℕ) (n : ℕ) (room' : List ℕ) : Type 0 where
   pub counted : n ≡ length new
   pub holds : room' ≡ new ++ drop n room
+
+-- the network and the table keep all rules
+pub record Accepted (N : Network) (T : Columns) : Type 0 where
+  pub network_accepted : Passed (network_order N)
+  pub table_accepted : Passed (rows_order N T)

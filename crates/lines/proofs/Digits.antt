@@ -1,12 +1,13 @@
--- A number's digits: how many there are, that the last one can be taken off, and that they tell the number again.
+-- A number's digits: that the library writes them, how many there are, and that they tell the number again.
 use mathlib.Core.Path.{◌≡◌, refl, sym, ap, ◌∙◌}
 use mathlib.Core.List.{List, [], ◌∷◌, ◌++◌}
 use Prim.Native.Nat.{ℕ, zero, suc, ◌+◌, ◌*◌, ◌-◌, ◌/◌, ◌%◌, ◌^◌, ◌≤◌, ◌<◌}
-use native.Mathlib.Nat.{pow-suc}
 use native.Mathlib.Omega.{arith}
 use native.Mathlib.Decide.{dec_lt}
 use lib.ListN.{length, get_or, length-append, get_or-append}
 use borrow.Author.Tests.{lt-ltb, le-ltb}
+use Rattle.std.specs.Fmt as printing
+use Rattle.std.proofs.lemmas.Fmt.{decimal_by_steps, length-decimal-le}
 use Rattle.lines.specs.Text.{digits, decimal}
 
 digits_one : (f n : ℕ) → n < 10 → digits (suc f) n ≡ (48 + n) ∷ []
@@ -29,40 +30,36 @@ digits_same (suc f) (suc g) n a b =
           ∙ sym (digits_more g n (omega arith))
     ]
 
-pub decimal_one : (n : ℕ) → n < 10 → decimal n ≡ (48 + n) ∷ []
+decimal_one : (n : ℕ) → n < 10 → decimal n ≡ (48 + n) ∷ []
 unfolding decimal
 decimal_one n h = digits_one n n h
 
-pub decimal_more : (n : ℕ) → 9 < n → decimal n ≡ decimal (n / 10) ++ ((48 + n % 10) ∷ [])
+decimal_more : (n : ℕ) → 9 < n → decimal n ≡ decimal (n / 10) ++ ((48 + n % 10) ∷ [])
 unfolding decimal
 decimal_more n h =
     digits_more n n h ∙ ap (λ (front : List ℕ). front ++ ((48 + n % 10) ∷ [])) (digits_same n (suc (n / 10)) (n / 10) (omega arith) (omega arith))
 
-pub length_one : (n : ℕ) → n < 10 → length (decimal n) ≡ 1
+length_one : (n : ℕ) → n < 10 → length (decimal n) ≡ 1
 length_one n h = rw (decimal_one n h) refl
 
-pub length_more : (n : ℕ) → 9 < n → length (decimal n) ≡ length (decimal (n / 10)) + 1
+length_more : (n : ℕ) → 9 < n → length (decimal n) ≡ length (decimal (n / 10)) + 1
 length_more n h = rw (decimal_more n h) (length-append (decimal (n / 10)) ((48 + n % 10) ∷ []))
 
-pub some_digit : (n : ℕ) → 1 ≤ length (decimal n)
+some_digit : (n : ℕ) → 1 ≤ length (decimal n)
 some_digit n = elim (dec_lt n 10) [ yes h ↦ omega (arith, length_one n h) | no h ↦ let m : 9 < n = omega arith in omega (arith, length_more n m) ]
 
-pub decimal_most : (k n : ℕ) → n < 10 ^ suc k → length (decimal n) ≤ suc k
-decimal_most zero n h = let one : n < 10 = h in omega (arith, length_one n one)
-decimal_most (suc k) n h =
-    elim (dec_lt n 10) [
-      | yes one ↦ omega (arith, length_one n one)
-      | no many ↦ let m : 9 < n = omega arith in
-          let t : n / 10 < 10 ^ suc k = omega (arith, rw (pow-suc 10 (suc k)) at h) in
-          omega (arith, length_more n m, decimal_most k (n / 10) t)
-    ]
+-- the library's text of a 64-bit number
+pub decimal_printed : (n : ℕ) → n < 2 ^ 64 → printing.decimal n ≡ decimal n
+decimal_printed n b =
+    decimal_by_steps
+    (λ n digits. digits ≡ decimal n)
+    (λ n one. sym (decimal_one n one))
+    (λ n digits many e. ap (λ (front : List ℕ). front ++ ((48 + n % 10) ∷ [])) e ∙ sym (decimal_more n (omega arith)))
+    n
+    b
 
--- the end of a count of a 64-bit number's digits, which left `rest`
-pub digits_counted : (n rest count : ℕ) → length (decimal rest) + count ≡ length (decimal n) + 1 → rest ≤ 9 → n < 18446744073709551616
-    → (count ≡ length (decimal n)) × (count ≤ 20)
-digits_counted n rest count e h b =
-    let one : rest < 10 = omega arith in
-    (omega (arith, length_one rest one), omega (arith, length_one rest one, decimal_most 19 n (omega arith)))
+pub decimal_most : (k n : ℕ) → n < 10 ^ suc k → n < 2 ^ 64 → length (decimal n) ≤ suc k
+decimal_most k n h b = omega (arith, ap length (decimal_printed n b), length-decimal-le (suc k) n (omega arith) h b)
 
 -- ---- the definition says what it should: the digits tell the number, and none but `0` itself begins with a zero
 

@@ -10,7 +10,8 @@ use Rattle.network.specs.declared.weight.Weight.{Weight}
 use Rattle.network.specs.declared.rows.Row.{Row}
 use Rattle.network.specs.Weight.{zero_weight, ◌⊕◌, Lighter}
 use Rattle.network.specs.Network.{Network, nodes, edges, Sound}
-use Rattle.network.specs.Sheet.{Sheet, Counted, SheetSound}
+use Rattle.network.specs.declared.sheet.Sheet.{Sheet}
+use Rattle.network.specs.Sheet.{Counted, SheetSound}
 use Rattle.network.specs.Rows.{row, rows, cost, SoundTable}
 use Rattle.network.specs.Journey.{Way, stay, ride, change, along, weight, Journey, Least, Stop, stops, Absent, Unrepeated}
 use Rattle.network.proofs.WeightLaws.{

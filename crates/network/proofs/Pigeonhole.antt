@@ -1,13 +1,15 @@
 -- A list of distinct numbers below n has length at most n.
-use mathlib.Core.Path.{◌≡◌, refl, sym, ap, ◌∙◌}
-use mathlib.Core.Bool.{Bool, cond}
+use mathlib.Core.Path.{◌≡◌, sym, ap, ◌∙◌}
+use mathlib.Core.Bool.{Bool, true, false, true≢false, ◌||◌}
 use mathlib.Core.List.{List, [], ◌∷◌}
-use Prim.Native.Nat.{ℕ, ◌+◌, ◌<◌, ◌≤◌}
+use Prim.Native.Nat.{ℕ, ◌<◌, ◌≤◌}
 use native.Mathlib.Omega.{arith}
+use native.Mathlib.Decide.{ℕ_discrete}
 use lib.Dec.{eqb}
 use lib.ListN.{length}
-use borrow.Author.Tests.{eq-eqb, ne_eqb}
-use Rattle.network.proofs.Counting.{waiting, waiting_drop, waiting_full}
+use borrow.Author.Tests.{ne_eqb}
+use Rattle.std.specs.List.{AllByRecursion, IsDistinct, list_any}
+use Rattle.std.proofs.lemmas.Map.Steps.{length-le_from_distinct_below}
 
 -- x is none of the list
 abbrev pub Absent : ℕ → List ℕ → Type 0
@@ -22,30 +24,22 @@ abbrev pub AllBelow : ℕ → List ℕ → Type 0
 AllBelow n [] = Unit {0}
 AllBelow n (x ∷ xs) = (x < n) × AllBelow n xs
 
--- 0 at the numbers of the list
-abbrev marks : List ℕ → ℕ → ℕ
-marks [] v = 1
-marks (x ∷ xs) v = cond (eqb v x) 0 (marks xs v)
+apart : (x : ℕ) (xs : List ℕ) → Absent x xs → AllByRecursion (λ y. eqb x y ≡ false) xs
+apart x [] a = tt
+apart x (y ∷ ys) a = (ne_eqb x y a.0, apart x ys a.1)
 
-absent_marked : (x : ℕ) (xs : List ℕ) → Absent x xs → marks xs x ≡ 0 → ⊥
-absent_marked x [] h z = omega arith
-absent_marked x (y ∷ ys) h z = absent_marked x ys h.1 (ap (λ (b : Bool). cond b 0 (marks ys x)) (sym (ne_eqb x y h.0)) ∙ z)
+all_apart : (xs : List ℕ) → Distinct xs → IsDistinct eqb xs
+unfolding IsDistinct
+all_apart [] no_more = tt
+all_apart (x ∷ xs) (and a d) = (apart x xs a, all_apart xs d)
 
-count : (n : ℕ) (xs : List ℕ) → AllBelow n xs → Distinct xs → waiting (marks xs) n + length xs ≡ n
-count n [] b no_more = omega (arith, waiting_full (marks []) n (λ v l z. omega arith))
-count n (x ∷ xs) b (and a d) = omega (
-  arith,
-  count n xs b.1 d,
-  waiting_drop
-      (marks xs)
-      (marks (x ∷ xs))
-      n
-      x
-      b.0
-      (absent_marked x xs a)
-      (ap (λ (t : Bool). cond t 0 (marks xs x)) (eq-eqb x x refl))
-      (λ v l m. ap (λ (t : Bool). cond t 0 (marks xs v)) (ne_eqb v x m)),
-)
+below : (n : ℕ) (xs : List ℕ) → AllBelow n xs → (q : ℕ) → list_any (eqb q) xs ≡ true → q < n
+below n [] b q h = absurd (true≢false (sym h))
+below n (x ∷ xs) b q h = go (below n xs b.1 q) (ℕ_discrete q x)
+  where
+    go : (list_any (eqb q) xs ≡ true → q < n) → Dec (q ≡ x) → q < n
+    go behind (yes e) = omega (arith, b.0)
+    go behind (no m) = behind (ap (λ (t : Bool). t || list_any (eqb q) xs) (sym (ne_eqb q x m)) ∙ h)
 
 pub pigeonhole : (n : ℕ) (xs : List ℕ) → AllBelow n xs → Distinct xs → length xs ≤ n
-pigeonhole n xs b d = omega (arith, count n xs b d)
+pigeonhole n xs b d = length-le_from_distinct_below xs n (all_apart xs d) (below n xs b)

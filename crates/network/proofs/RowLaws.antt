@@ -1,5 +1,5 @@
 -- Laws of rows: where a row stands, what the columns hold of it, and what holds of every row of a sound table.
-use mathlib.Core.Path.{◌≡◌, refl, sym, ap, subst, subst₂, subst₃, ◌∙◌}
+use mathlib.Core.Path.{◌≡◌, refl, sym, ap, subst, subst₃, ◌∙◌}
 use mathlib.Core.Bool.{Bool, true, false, cond}
 use mathlib.Core.List.{List, []}
 use Prim.Native.Nat.{ℕ, zero, suc, ◌-◌, ◌<◌, ◌≤◌}
@@ -10,7 +10,6 @@ use lib.ListN.{length, get_or, get_or-eq_default}
 use borrow.Author.Tests.{lt-ltb, le-ltb}
 use Rattle.network.specs.declared.weight.Weight.{Weight}
 use Rattle.network.specs.declared.rows.Row.{Row}
-use Rattle.network.specs.Weight.{◌⊕◌, Held, Lighter, Sum}
 use Rattle.network.specs.Network.{Network, nodes, edges, Sound}
 use Rattle.network.specs.Rows.{
   row,
@@ -28,7 +27,7 @@ use Rattle.network.specs.Rows.{
   SoundTable,
 }
 use Rattle.network.specs.Answers.{Decides, row_read, tail_read}
-use Rattle.network.proofs.WeightLaws.{⊕-time, ⊕-edges, sum_held, lighter_irrefl, neither_lighter}
+use Rattle.network.proofs.WeightLaws.{⊕-time, ⊕-edges}
 use Rattle.network.proofs.Scanning.{decides_map}
 
 pub row_edge : (N : Network) (ss : List Row) (r : ℕ) → r < edges N → row N ss r ≡ edge_row N r
@@ -102,11 +101,8 @@ module _ (N : Network) (T : Columns) (v : Even T) (r : ℕ) {x : Row} (ex : x �
   read : x ≡ row N (table T) r
   read = ex ∙ read_row v N r
 
-  pub first_not_lower : r ≤ x.first → SoundRow N (table T) r → ⊥
-  first_not_lower l s = omega (arith, ap (λ z. z.first) read, s.first_lower)
-
-  pub second_not_lower : r ≤ x.second → SoundRow N (table T) r → ⊥
-  second_not_lower l s = omega (arith, ap (λ z. z.second) read, s.second_lower)
+  pub both_lower : SoundRow N (table T) r → (x.first < r) × (x.second < r)
+  both_lower s = (omega (arith, ap (λ z. z.first) read, s.first_lower), omega (arith, ap (λ z. z.second) read, s.second_lower))
 
   pub sound_by_joins : {a b : Row} (d : Bool) → x.first < r → x.second < r → a ≡ row_read N T x.first → b ≡ row_read N T x.second
       → Decides d (Joins N.node_ranks x a b) → Decides d (SoundRow N (table T) r)
@@ -123,20 +119,6 @@ module _ (N : Network) (T : Columns) (v : Even T) (r : ℕ) {x : Row} (ex : x �
 
       second : b ≡ row N (table T) (row N (table T) r).second
       second = eb ∙ read_row v N x.second ∙ ap (λ z. row N (table T) z.second) read
-
--- the test of a row's cost o against its children's, p and q with the unit's sum s
-module _ (x a b : Row) {o p q s : Weight} (eo : o ≡ cost x) (ep : p ≡ cost a) (eq : q ≡ cost b) (sum : Sum p q s) (held : Held (cost a ⊕ cost b)) where
-  summed : s ≡ cost a ⊕ cost b
-  summed = sum_held (subst₂ (λ y z. Sum y z s) ep eq sum) held
-
-  pub own_lighter : Lighter o s → cost x ≡ cost a ⊕ cost b → ⊥
-  own_lighter l e = lighter_irrefl (subst (λ w. Lighter w s) (eo ∙ e ∙ sym summed) l)
-
-  pub own_heavier : Lighter s o → cost x ≡ cost a ⊕ cost b → ⊥
-  own_heavier l e = lighter_irrefl (subst (λ w. Lighter s w) (eo ∙ e ∙ sym summed) l)
-
-  pub own_same : (Lighter o s → ⊥) → (Lighter s o → ⊥) → cost x ≡ cost a ⊕ cost b
-  own_same n m = sym eo ∙ neither_lighter n m ∙ summed
 
 -- what holds of a row whose ends are nodes
 pub record RowFine (N : Network) (ss : List Row) (r : ℕ) : Type 0 where

@@ -4,7 +4,8 @@ use Rattle.network.specs.declared.weight.Weight.{Weight}
 use Rattle.network.specs.declared.rows.Row.{Row}
 use Rattle.network.specs.Weight.{zero_weight, ◌⊕◌, Lighter}
 use Rattle.network.specs.Network.{Network}
-use Rattle.network.specs.Sheet.{Sheet, MayRide, MayChange, Initial, Final}
+use Rattle.network.specs.declared.sheet.Sheet.{Sheet}
+use Rattle.network.specs.Sheet.{MayRide, MayChange, Initial, Final}
 use Rattle.network.specs.Rows.{row, rows, cost}
 
 -- The row numbers of a way from node u in state q to node v in state j. "An edge of mode 1 to 7 keeps the state and needs its mode bit. A link

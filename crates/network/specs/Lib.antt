@@ -4,6 +4,7 @@ pub mod Order
 pub mod Network
 pub mod Sheet
 pub mod Rows
+pub mod Lent
 pub mod Journey
 pub mod Refusal
 pub mod Answers

@@ -2,7 +2,8 @@
 use Rattle.std.specs.Prelude.{◌≡◌, ◌⊎◌, List, [], ◌∷◌, ℕ, ◌<◌, ◌≤◌}
 use Rattle.network.specs.declared.rows.Row.{Row}
 use Rattle.network.specs.Network.{Network, nodes, edges, Sized, NodeFine, EdgeFine, TransferFine}
-use Rattle.network.specs.Sheet.{Sheet, Counted, StateFine, SheetSound}
+use Rattle.network.specs.declared.sheet.Sheet.{Sheet}
+use Rattle.network.specs.Sheet.{Counted, StateFine, SheetSound}
 use Rattle.network.specs.Rows.{Columns, RowsSized, SoundRow, rows, table}
 
 -- A rule with its number: what holds where it is kept, and, where it is broken, of which place.

@@ -1,12 +1,9 @@
 -- The traveller's sheet (01, "Network and sheet").
 use Rattle.std.specs.Prelude.{◌≡◌, List, ℕ, ◌<◌, ◌≤◌, ◌/◌, ◌%◌, ◌^◌, get_or}
 use Rattle.network.specs.declared.sheet.State.{State}
+use Rattle.network.specs.declared.sheet.Sheet.{Sheet}
 
--- "held as eight state entries by value"; "entries past the state count are not read"
-pub record Sheet : Type 0 where
-  pub entries : List State
-  pub states : ℕ
-
+-- A `Sheet` is the program's: "held as eight state entries by value"; "entries past the state count are not read"
 abbrev pub sheet_of : List State → ℕ → Sheet
 sheet_of entries states = record { entries = entries; states = states }
 

@@ -3,13 +3,6 @@ use Rattle.std.specs.Prelude.{◌≡◌, ◌⊎◌, List, ℕ, ◌<◌, ◌≤�
 use Rattle.network.specs.Order.{Core}
 use Rattle.network.specs.Network.{Network, edge_tail, edge_head, edge_mode}
 
--- r is the lowest number from start on and below n of which P does not hold, or n where it holds of all
-pub record Scanned (P : ℕ → Type 0) (start n r : ℕ) : Type 0 where
-  pub from_start : start ≤ r
-  pub within : r ≤ n
-  pub before_fine : (i : ℕ) → start ≤ i → i < r → P i
-  pub broken : r < n → P r → ⊥
-
 -- r is the lower of low and v, v counting only where it is not core
 pub data Lowered (ranks : List ℕ) (v low r : ℕ) : Type 0 where
   same : r ≡ low → (v < low → Core ranks v) → Lowered ranks v low r

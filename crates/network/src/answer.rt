@@ -1,10 +1,12 @@
-// What an entry point answers, and the numbers that it shows.
+// What an entry point answers, as C gets it: the number that is shown, and what goes with it.
 ghost use Rattle.std.specs.Prelude.{◌≡◌};
-ghost use Rattle.network.specs.Answers.{shown};
+ghost use Rattle.network.specs.Answers.{refused, shown, verdict};
+
+use crate::refusal::Refusal;
 
 // Laid out as C lays it out: the exported functions hand it over by value.
 #[repr(C)]
-#[derive(Clone, Copy)]
+#[derive(Clone, Copy, Debug, PartialEq, Eq)]
 pub struct Answer {
     pub number: u8,
     pub place: u64,
@@ -13,31 +15,8 @@ pub struct Answer {
 }
 
 impl Answer {
+    // C gets a number, so whoever is handed an answer compares it with this one.
     pub const ANSWERED: u8 = 0;
-    // A size is outside the limits, or columns differ in length.
-    pub const SIZES: u8 = 1;
-    // A node's mode is 0 or above 7.
-    pub const NODE_MODE: u8 = 2;
-    // An edge breaks a rule.
-    pub const EDGE: u8 = 3;
-    // A transfer node is not core.
-    pub const TRANSFER: u8 = 4;
-    // The sheet breaks a rule.
-    pub const SHEET: u8 = 5;
-    // The question names no node.
-    pub const QUESTION: u8 = 6;
-    // There is no accepted path.
-    pub const NO_JOURNEY: u8 = 7;
-    // The journey room is below the edge count.
-    pub const JOURNEY_ROOM: u8 = 8;
-    // The shortcuts exceed the lent rows, or 4,096 rows in all.
-    pub const SHORTCUT_ROOM: u8 = 9;
-    // A shortcut row is unsound.
-    pub const SHORTCUT: u8 = 10;
-    // A work room is too small.
-    pub const WORK_ROOM: u8 = 11;
-    // A record of the stream is unknown, misplaced or cut.
-    pub const RECORD: u8 = 12;
 
     // A number and its place, with no time and no count.
     pub fn show(number: u8, place: usize) -> Answer
@@ -48,6 +27,27 @@ impl Answer {
             place: place as u64,
             time: 0,
             count: 0,
+        }
+    }
+}
+
+// A refusal's number and place.
+impl From<Refusal> for Answer {
+    ghost from_gives = { λ refusal answer. answer ≡ refused refusal };
+
+    fn from(refusal: Refusal) -> Answer {
+        Answer::show(refusal.fault as u8, refusal.place as usize)
+    }
+}
+
+// The same of a check, with number 0 where it passed.
+impl From<Result<(), Refusal>> for Answer {
+    ghost from_gives = { λ checked answer. answer ≡ verdict checked };
+
+    fn from(checked: Result<(), Refusal>) -> Answer {
+        match checked {
+            Ok(()) => Answer::show(Answer::ANSWERED, 0),
+            Err(refusal) => refusal.into(),
         }
     }
 }

@@ -1,72 +1,34 @@
 // The rule of the edges.
-ghost use Rattle.network.specs.Answers.{Decides};
-ghost use Rattle.network.specs.Network.{network, edges, EdgeFine};
-ghost use Rattle.network.specs.Steps.{Scanned};
+ghost use Rattle.network.specs.Answers.{Decides, Found};
+ghost use Rattle.network.specs.Lent.{network_of};
+ghost use Rattle.network.specs.Network.{edges, EdgeFine};
 
-use columns::{at8, at16, node_at};
+use crate::lent::Network;
+use columns::{at, node_at};
 
 // Whether the edge e keeps its rule.
-fn edge_fine(
-    node_modes: &[u8],
-    node_ranks: &[u16],
-    tails: &[u16],
-    heads: &[u16],
-    modes: &[u8],
-    lengths: &[u16],
-    e: usize,
-) -> bool
-    ensures { Decides result (EdgeFine (network node_modes.now node_ranks.now tails.now heads.now modes.now lengths.now) e) }
+fn edge_fine(network: &Network, e: usize) -> bool
+    ensures { Decides result (EdgeFine (network_of network.now) e) }
 {
-    let tail = node_at(tails, e);
-    let head = node_at(heads, e);
-    let mode = at8(modes, e);
-    let length = at16(lengths, e);
-    if node_modes.len() <= tail {
-        return false;
-    }
-    if node_modes.len() <= head {
-        return false;
-    }
-    if tail == head {
-        return false;
-    }
-    if length == 0 {
-        return false;
-    }
-    // A link joins any two different nodes.
-    if mode == 0 {
-        return true;
-    }
-    if 7 < mode {
-        return false;
-    }
-    if at8(node_modes, tail) != mode {
-        return false;
-    }
-    if at8(node_modes, head) != mode {
-        return false;
-    }
-    true
+    let tail = node_at(network.tails, e);
+    let head = node_at(network.heads, e);
+    let mode = at(network.modes, e);
+    let length = at(network.lengths, e);
+    let nodes = network.node_modes.len();
+    // A link, whose mode is 0, joins any two different nodes.
+    tail < nodes
+        && head < nodes
+        && tail != head
+        && length != 0
+        && (mode == 0
+            || mode <= 7
+                && at(network.node_modes, tail) == mode
+                && at(network.node_modes, head) == mode)
 }
 
-// The lowest edge that breaks its rule, or how many there are.
-pub fn first_bad_edge(
-    node_modes: &[u8],
-    node_ranks: &[u16],
-    tails: &[u16],
-    heads: &[u16],
-    modes: &[u8],
-    lengths: &[u16],
-) -> usize
-    ensures { Scanned (EdgeFine (network node_modes.now node_ranks.now tails.now heads.now modes.now lengths.now)) 0 (edges (network node_modes.now node_ranks.now tails.now heads.now modes.now lengths.now)) result }
+// The lowest edge that breaks its rule.
+pub(crate) fn first_bad_edge(network: &Network) -> Option<usize>
+    ensures { Found (EdgeFine (network_of network.now)) 0 (edges (network_of network.now)) result }
 {
-    let mut e = 0;
-    while e < tails.len() {
-        if edge_fine(node_modes, node_ranks, tails, heads, modes, lengths, e) {
-            e += 1;
-        } else {
-            return e;
-        }
-    }
-    e
+    (0..network.tails.len()).find(|e| !edge_fine(network, *e))
 }

@@ -4,8 +4,10 @@
 pub mod answer;
 pub mod check;
 mod edges;
+pub mod lent;
 mod nodes;
 pub mod order;
+pub mod refusal;
 pub mod rows;
 pub mod sheet;
 pub mod table;
@@ -13,4 +15,4 @@ mod transfers;
 pub mod weight;
 
 // The total reads and writes of the columns, handed on.
-pub use columns::{at8, at16, at32, at64, node_at, put8, put16, put32, put64};
+pub use columns::{Entry, at, front, node_at, put};

@@ -1,52 +1,23 @@
 // The rule of the nodes.
 ghost use Rattle.std.specs.Prelude.{◌≡◌, ◌<◌};
-ghost use Rattle.network.specs.Answers.{Decides};
-ghost use Rattle.network.specs.Network.{network, nodes, NodeFine};
-ghost use Rattle.network.specs.Steps.{Scanned};
+ghost use Rattle.network.specs.Answers.{Decides, Found};
+ghost use Rattle.network.specs.Lent.{network_of};
+ghost use Rattle.network.specs.Network.{nodes, NodeFine};
 
-use columns::{at8, at16};
+use crate::lent::Network;
+use columns::at;
 
 // Whether the node v keeps its rule. Every u16 is a rank: it is read for that alone, and the compiler drops the read.
-fn node_fine(
-    node_modes: &[u8],
-    node_ranks: &[u16],
-    tails: &[u16],
-    heads: &[u16],
-    modes: &[u8],
-    lengths: &[u16],
-    v: usize,
-) -> bool
-    ensures { Decides result (NodeFine (network node_modes.now node_ranks.now tails.now heads.now modes.now lengths.now) v) }
+fn node_fine(network: &Network, v: usize) -> bool
+    ensures { Decides result (NodeFine (network_of network.now) v) }
 {
-    let mode = at8(node_modes, v);
-    let _rank = at16(node_ranks, v);
-    if mode == 0 {
-        return false;
-    }
-    if 7 < mode {
-        return false;
-    }
-    true
+    let _rank = at(network.node_ranks, v);
+    matches!(at(network.node_modes, v), 1..=7)
 }
 
-// The lowest node that breaks its rule, or how many there are.
-pub fn first_bad_node(
-    node_modes: &[u8],
-    node_ranks: &[u16],
-    tails: &[u16],
-    heads: &[u16],
-    modes: &[u8],
-    lengths: &[u16],
-) -> usize
-    ensures { Scanned (NodeFine (network node_modes.now node_ranks.now tails.now heads.now modes.now lengths.now)) 0 (nodes (network node_modes.now node_ranks.now tails.now heads.now modes.now lengths.now)) result }
+// The lowest node that breaks its rule.
+pub(crate) fn first_bad_node(network: &Network) -> Option<usize>
+    ensures { Found (NodeFine (network_of network.now)) 0 (nodes (network_of network.now)) result }
 {
-    let mut v = 0;
-    while v < node_modes.len() {
-        if node_fine(node_modes, node_ranks, tails, heads, modes, lengths, v) {
-            v += 1;
-        } else {
-            return v;
-        }
-    }
-    v
+    (0..network.node_modes.len()).find(|v| !node_fine(network, *v))
 }

@@ -2,7 +2,7 @@
 ghost use Rattle.network.specs.Answers.{Decides};
 ghost use Rattle.network.specs.Order.{Before};
 
-use columns::at16;
+use columns::at;
 
 // The rank of a node that is never contracted.
 pub const CORE: u16 = 65535;
@@ -11,19 +11,6 @@ pub const CORE: u16 = 65535;
 pub fn contracted_before(node_ranks: &[u16], x: usize, y: usize) -> bool
     ensures { Decides result (Before node_ranks.now x y) }
 {
-    let rank_x = at16(node_ranks, x);
-    let rank_y = at16(node_ranks, y);
-    if rank_x < rank_y {
-        return true;
-    }
-    if rank_y < rank_x {
-        return false;
-    }
-    if rank_x == CORE {
-        return false;
-    }
-    if x < y {
-        return true;
-    }
-    false
+    let rank = at(node_ranks, x);
+    rank != CORE && (rank, x) < (at(node_ranks, y), y)
 }

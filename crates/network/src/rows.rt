@@ -1,13 +1,14 @@
 // Rows: the edges, then the shortcuts.
-ghost use Rattle.std.specs.Prelude.{◌≡◌, []};
+ghost use Rattle.std.specs.Prelude.{◌≡◌};
 ghost use Rattle.network.specs.Answers.{row_read, tail_read};
-ghost use Rattle.network.specs.Network.{network};
-ghost use Rattle.network.specs.Rows.{columns, cost, edge_row, shortcut};
+ghost use Rattle.network.specs.Lent.{network_of, columns_of};
+ghost use Rattle.network.specs.Rows.{cost, edge_row, shortcut};
 
+use crate::lent::{Network, Shortcuts};
 use crate::weight::Weight;
-use columns::{at8, at16, at32};
+use columns::at;
 
-#[derive(Clone, Copy)]
+#[derive(Clone, Copy, Debug, PartialEq, Eq)]
 pub struct Row {
     pub tail: u16,
     pub head: u16,
@@ -31,14 +32,14 @@ impl Row {
 }
 
 // The edge e as a row.
-fn edge_row(tails: &[u16], heads: &[u16], modes: &[u8], lengths: &[u16], e: usize) -> Row
-    ensures { result ≡ edge_row (network [] [] tails.now heads.now modes.now lengths.now) e }
+fn edge_row(network: &Network, e: usize) -> Row
+    ensures { result ≡ edge_row (network_of network.now) e }
 {
     Row {
-        tail: at16(tails, e),
-        head: at16(heads, e),
-        mode: at8(modes, e),
-        length: at16(lengths, e) as u32,
+        tail: at(network.tails, e),
+        head: at(network.heads, e),
+        mode: at(network.modes, e),
+        length: at(network.lengths, e) as u32,
         count: 1,
         first: 0,
         second: 0,
@@ -46,68 +47,37 @@ fn edge_row(tails: &[u16], heads: &[u16], modes: &[u8], lengths: &[u16], e: usiz
 }
 
 // The shortcut i of the columns.
-fn shortcut_row(
-    shortcut_tails: &[u16],
-    shortcut_heads: &[u16],
-    shortcut_modes: &[u8],
-    shortcut_lengths: &[u32],
-    shortcut_counts: &[u16],
-    shortcut_firsts: &[u16],
-    shortcut_seconds: &[u16],
-    i: usize,
-) -> Row
-    ensures { result ≡ shortcut (columns shortcut_tails.now shortcut_heads.now shortcut_modes.now shortcut_lengths.now shortcut_counts.now shortcut_firsts.now shortcut_seconds.now) i }
+fn shortcut_row(shortcuts: &Shortcuts, i: usize) -> Row
+    ensures { result ≡ shortcut (columns_of shortcuts.now) i }
 {
     Row {
-        tail: at16(shortcut_tails, i),
-        head: at16(shortcut_heads, i),
-        mode: at8(shortcut_modes, i),
-        length: at32(shortcut_lengths, i),
-        count: at16(shortcut_counts, i),
-        first: at16(shortcut_firsts, i),
-        second: at16(shortcut_seconds, i),
+        tail: at(shortcuts.tails, i),
+        head: at(shortcuts.heads, i),
+        mode: at(shortcuts.modes, i),
+        length: at(shortcuts.lengths, i),
+        count: at(shortcuts.counts, i),
+        first: at(shortcuts.firsts, i),
+        second: at(shortcuts.seconds, i),
     }
 }
 
 // The row r: an edge, then a shortcut.
-pub fn row_at(
-    tails: &[u16],
-    heads: &[u16],
-    modes: &[u8],
-    lengths: &[u16],
-    shortcut_tails: &[u16],
-    shortcut_heads: &[u16],
-    shortcut_modes: &[u8],
-    shortcut_lengths: &[u32],
-    shortcut_counts: &[u16],
-    shortcut_firsts: &[u16],
-    shortcut_seconds: &[u16],
-    r: usize,
-) -> Row
-    ensures { result ≡ row_read (network [] [] tails.now heads.now modes.now lengths.now) (columns shortcut_tails.now shortcut_heads.now shortcut_modes.now shortcut_lengths.now shortcut_counts.now shortcut_firsts.now shortcut_seconds.now) r }
+pub fn row_at(network: &Network, shortcuts: &Shortcuts, r: usize) -> Row
+    ensures { result ≡ row_read (network_of network.now) (columns_of shortcuts.now) r }
 {
-    if r < tails.len() {
-        return edge_row(tails, heads, modes, lengths, r);
+    if r < network.tails.len() {
+        return edge_row(network, r);
     }
-    let i = r - tails.len();
-    shortcut_row(
-        shortcut_tails,
-        shortcut_heads,
-        shortcut_modes,
-        shortcut_lengths,
-        shortcut_counts,
-        shortcut_firsts,
-        shortcut_seconds,
-        i,
-    )
+    let i = r - network.tails.len();
+    shortcut_row(shortcuts, i)
 }
 
 // The tail of the row r, read alone: whoever looks for the rows from a node reads no more of all others.
-pub fn tail_at(tails: &[u16], shortcut_tails: &[u16], r: usize) -> u16
-    ensures { result ≡ tail_read tails.now shortcut_tails.now r }
+pub fn tail_at(network: &Network, shortcuts: &Shortcuts, r: usize) -> u16
+    ensures { result ≡ tail_read network.now.tails.now shortcuts.now.tails.now r }
 {
-    if r < tails.len() {
-        return at16(tails, r);
+    if r < network.tails.len() {
+        return at(network.tails, r);
     }
-    at16(shortcut_tails, r - tails.len())
+    at(shortcuts.tails, r - network.tails.len())
 }

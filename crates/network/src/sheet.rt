@@ -1,13 +1,12 @@
 // The traveller's sheet and its check.
 ghost use Rattle.std.specs.Prelude.{◌≡◌, ◌^◌, ◌≤◌, ◌<◌};
-ghost use Rattle.network.specs.Answers.{Decides, Checked};
+ghost use Rattle.network.specs.Answers.{Decides, Found, Ruled};
 ghost use Rattle.network.specs.Refusal.{sheet_order};
-ghost use Rattle.network.specs.Sheet.{sheet_of, StateFine};
-ghost use Rattle.network.specs.Steps.{Scanned};
+ghost use Rattle.network.specs.Sheet.{StateFine};
 
-use crate::answer::Answer;
+use crate::refusal::{Fault, Refusal};
 
-#[derive(Clone, Copy)]
+#[derive(Clone, Copy, Debug, PartialEq, Eq)]
 pub struct State {
     // Bit i: mode i may be ridden.
     pub modes: u8,
@@ -17,8 +16,24 @@ pub struct State {
     pub ends: u8,
 }
 
+impl State {
+    // A state that rides nothing and leads nowhere.
+    pub const ABSENT: State = State {
+        modes: 0,
+        next: 0,
+        ends: 0,
+    };
+}
+
+// The first `states` of the entries are the sheet's; the rest are not read.
+#[derive(Clone, Copy, Debug)]
+pub struct Sheet {
+    pub entries: [State; 8],
+    pub states: u8,
+}
+
 // The least number with a bit for an absent state.
-fn first_absent_bit(states: usize) -> u16
+fn first_absent_bit(states: u8) -> u16
     requires { states ≤ 8 }
     ensures { result ≡ 2 ^ states }
 {
@@ -26,52 +41,31 @@ fn first_absent_bit(states: usize) -> u16
 }
 
 // Whether the state q keeps its rule.
-fn state_fine(sheet: [State; 8], states: usize, q: usize) -> bool
-    requires { (states ≤ 8) × (q < states) }
-    ensures { Decides result (StateFine (sheet_of sheet states) q) }
+fn state_fine(sheet: &Sheet, q: usize) -> bool
+    requires { (sheet.now.states ≤ 8) × (q < sheet.now.states) }
+    ensures { Decides result (StateFine sheet.now q) }
 {
-    let state = sheet[q];
-    if state.modes % 2 == 1 {
-        return false;
-    }
-    if first_absent_bit(states) <= state.next as u16 {
-        return false;
-    }
-    if 3 < state.ends {
-        return false;
-    }
-    true
+    let state = sheet.entries[q];
+    state.modes % 2 == 0 && (state.next as u16) < first_absent_bit(sheet.states) && state.ends <= 3
 }
 
-// The lowest state that breaks its rule, or how many there are.
-fn first_bad_state(sheet: [State; 8], states: usize) -> usize
-    requires { states ≤ 8 }
-    ensures { Scanned (StateFine (sheet_of sheet states)) 0 states result }
+// The lowest state that breaks its rule.
+fn first_bad_state(sheet: &Sheet) -> Option<usize>
+    requires { sheet.now.states ≤ 8 }
+    ensures { Found (StateFine sheet.now) 0 sheet.now.states result }
 {
-    let mut q = 0;
-    while q < states {
-        if state_fine(sheet, states, q) {
-            q += 1;
-        } else {
-            return q;
-        }
-    }
-    q
+    (0..sheet.states as usize).find(|q| !state_fine(sheet, *q))
 }
 
 // The check of a sheet: number 5.
-pub fn check_sheet(sheet: [State; 8], states: u8) -> Answer
-    ensures { Checked (sheet_order (sheet_of sheet states)) result }
+pub fn check_sheet(sheet: &Sheet) -> Result<(), Refusal>
+    ensures { Ruled (sheet_order sheet.now) result }
 {
-    if states == 0 {
-        return Answer::show(Answer::SHEET, 0);
+    if sheet.states == 0 || 8 < sheet.states {
+        return Err(Fault::Sheet.at(0));
     }
-    if 8 < states {
-        return Answer::show(Answer::SHEET, 0);
+    match first_bad_state(sheet) {
+        Some(q) => Err(Fault::Sheet.at(q)),
+        None => Ok(()),
     }
-    let state = first_bad_state(sheet, states as usize);
-    if state < states as usize {
-        return Answer::show(Answer::SHEET, state);
-    }
-    Answer::show(Answer::ANSWERED, 0)
 }

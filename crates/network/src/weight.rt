@@ -2,7 +2,8 @@
 ghost use Rattle.network.specs.Answers.{Decides};
 ghost use Rattle.network.specs.Weight.{Sum, Lighter};
 
-#[derive(Clone, Copy)]
+// Compared by time first, then by edges.
+#[derive(Clone, Copy, Debug, PartialEq, Eq, PartialOrd, Ord)]
 pub struct Weight {
     pub time: u64,
     pub edges: u32,
@@ -22,31 +23,19 @@ impl Weight {
     pub fn plus(self, other: Weight) -> Weight
         ensures { Sum self other result }
     {
-        if Weight::NONE.time - self.time < other.time {
+        let Some(time) = self.time.checked_add(other.time) else {
             return Weight::NONE;
-        }
-        if Weight::NONE.edges - self.edges < other.edges {
+        };
+        let Some(edges) = self.edges.checked_add(other.edges) else {
             return Weight::NONE;
-        }
-        Weight {
-            time: self.time + other.time,
-            edges: self.edges + other.edges,
-        }
+        };
+        Weight { time, edges }
     }
 
-    // Whether this one is lighter: by time first.
+    // Whether this one is lighter: `<`, by the name that the promises have for it.
     pub fn lighter(self, other: Weight) -> bool
         ensures { Decides result (Lighter self other) }
     {
-        if self.time < other.time {
-            return true;
-        }
-        if other.time < self.time {
-            return false;
-        }
-        if self.edges < other.edges {
-            return true;
-        }
-        false
+        self < other
     }
 }

@@ -5,12 +5,13 @@ use Prim.Native.Nat.{ℕ, suc, ◌+◌, ◌-◌, ◌<◌, ◌≤◌, min}
 use native.Mathlib.Omega.{arith}
 use native.Mathlib.Decide.{ℕ_discrete}
 use lib.ListN.{length, get_or, take, set, replicate, length-take, length-set}
-use lib.Seq.{take-append_seam, take-set-le, take-suc-set, get_or-take, get_or-set_same, get_or-set_other, ext_get_or}
+use lib.Seq.{take-append_seam, take-suc-set, get_or-take, get_or-set_same, get_or-set_other, ext_get_or}
 use Rattle.network.specs.declared.rows.Row.{Row}
 use Rattle.network.specs.Rows.{Columns, Even, no_row, shortcut, table}
 use Rattle.network.proofs.RowLaws.{row-≡, table_length, table_at}
 use Rattle.preparation.specs.Answers.{Holds}
-use Rattle.preparation.specs.Preparing.{front, put_row}
+use Rattle.network.specs.Lent.{front_columns}
+use Rattle.preparation.specs.Preparing.{put_row}
 
 pub columns-≡ : {T U : Columns} → T.tails ≡ U.tails → T.heads ≡ U.heads → T.modes ≡ U.modes → T.lengths ≡ U.lengths
     → T.counts ≡ U.counts → T.firsts ≡ U.firsts → T.seconds ≡ U.seconds → T ≡ U
@@ -19,7 +20,7 @@ columns-≡ a b c d e f g =
 
 -- the first rows ---------------------------------------------------------------------------------------------------------------------------------
 
-pub front_even : (k : ℕ) {T : Columns} → Even T → Even (front k T)
+pub front_even : (k : ℕ) {T : Columns} → Even T → Even (front_columns k T)
 front_even k {T} v = record {
   heads_even = cut T.heads v.heads_even;
   modes_even = cut T.modes v.modes_even;
@@ -32,7 +33,7 @@ front_even k {T} v = record {
     cut : (l : List ℕ) → length l ≡ length T.tails → length (take k l) ≡ length (take k T.tails)
     cut l e = length-take k l ∙ ap (min k) e ∙ sym (length-take k T.tails)
 
-shortcut_front : (T : Columns) (k i : ℕ) → i < k → shortcut (front k T) i ≡ shortcut T i
+shortcut_front : (T : Columns) (k i : ℕ) → i < k → shortcut (front_columns k T) i ≡ shortcut T i
 shortcut_front T k i l = row-≡
     (get_or-take k T.tails i 0 l)
     (get_or-take k T.heads i 0 l)
@@ -42,16 +43,16 @@ shortcut_front T k i l = row-≡
     (get_or-take k T.firsts i 0 l)
     (get_or-take k T.seconds i 0 l)
 
-pub table_front : (k : ℕ) {T : Columns} → Even T → table (front k T) ≡ take k (table T)
-table_front k {T} v = ext_get_or no_row (table (front k T)) (take k (table T)) sizes each
+pub table_front : (k : ℕ) {T : Columns} → Even T → table (front_columns k T) ≡ take k (table T)
+table_front k {T} v = ext_get_or no_row (table (front_columns k T)) (take k (table T)) sizes each
   where
-    sizes : length (table (front k T)) ≡ length (take k (table T))
+    sizes : length (table (front_columns k T)) ≡ length (take k (table T))
     sizes =
-        table_length (front k T) ∙ length-take k T.tails ∙ ap (min k) (sym (table_length T)) ∙ sym (length-take k (table T))
+        table_length (front_columns k T) ∙ length-take k T.tails ∙ ap (min k) (sym (table_length T)) ∙ sym (length-take k (table T))
 
-    each : (i : ℕ) → i < length (table (front k T)) → get_or (table (front k T)) i no_row ≡ get_or (take k (table T)) i no_row
+    each : (i : ℕ) → i < length (table (front_columns k T)) → get_or (table (front_columns k T)) i no_row ≡ get_or (take k (table T)) i no_row
     each i l =
-        let b : i < k = omega (arith, l, table_length (front k T), length-take k T.tails) in
+        let b : i < k = omega (arith, l, table_length (front_columns k T), length-take k T.tails) in
         table_at (front_even k v) i ∙ shortcut_front T k i b ∙ sym (table_at v i) ∙ sym (get_or-take k (table T) i no_row b)
 
 -- a row that is written --------------------------------------------------------------------------------------------------------------------------
@@ -110,20 +111,9 @@ table_put {T} v i x = ext_get_or no_row (table (put_row T i x)) (set (table T) i
             ∙ ap (λ (k : ℕ). get_or (set (table T) i x) k no_row) (sym e)
         go (no n) = shortcut_beside T i j x n ∙ sym (table_at v j) ∙ sym (get_or-set_other (table T) i j x no_row n)
 
--- the rows in front of the written one stay
-pub front_put : (T : Columns) (k : ℕ) (x : Row) → front k (put_row T k x) ≡ front k T
-front_put T k x = columns-≡
-    (take-set-le k T.tails k x.tail (omega arith))
-    (take-set-le k T.heads k x.head (omega arith))
-    (take-set-le k T.modes k x.mode (omega arith))
-    (take-set-le k T.lengths k x.length (omega arith))
-    (take-set-le k T.counts k x.count (omega arith))
-    (take-set-le k T.firsts k x.first (omega arith))
-    (take-set-le k T.seconds k x.second (omega arith))
-
 -- and it follows them
 pub front_more : {T : Columns} → Even T → (k : ℕ) (x : Row) → k < length T.tails
-    → table (front (k + 1) (put_row T k x)) ≡ table (front k T) ++ (x ∷ [])
+    → table (front_columns (k + 1) (put_row T k x)) ≡ table (front_columns k T) ++ (x ∷ [])
 front_more {T} v k x l =
     let z : k + 1 ≡ suc k = omega arith in
     table_front (k + 1) (put_even v k x) ∙ ap (take (k + 1)) (table_put v k x) ∙ ap (λ (m : ℕ). take m (set (table T) k x)) z
@@ -148,6 +138,6 @@ columns_same {T} {U} v w size e = columns-≡
 pub holds_unique : {T U : Columns} {lent : ℕ} {ss : List Row} → Holds T lent ss → Holds U lent ss → T ≡ U
 holds_unique h k = columns_same h.even k.even (h.size ∙ sym k.size) (h.shows ∙ sym k.shows)
 
-pub holds_front : {T : Columns} {lent : ℕ} {ss : List Row} → Holds T lent ss → length ss ≤ lent → table (front (length ss) T) ≡ ss
+pub holds_front : {T : Columns} {lent : ℕ} {ss : List Row} → Holds T lent ss → length ss ≤ lent → table (front_columns (length ss) T) ≡ ss
 holds_front {T} {lent} {ss} h l =
     table_front (length ss) h.even ∙ ap (take (length ss)) h.shows ∙ take-append_seam ss (replicate (lent - length ss) no_row)

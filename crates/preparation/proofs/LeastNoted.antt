@@ -26,39 +26,13 @@ use Rattle.preparation.specs.Noting.{
   lighter,
   no_lighter,
   RowNoted,
+  EndNoted,
+  stands,
+  gone,
   into,
   out,
-  tail_gone,
-  head_gone,
   elsewhere,
 }
-
--- the slots are cleared one after the other -------------------------------------------------------------------------------------------------------
-
--- those below i are, in a room that was as long as `narrow₀`
-pub record Clearing (n : ℕ) (narrow₀ narrow : List ℕ) (i : ℕ) : Type 0 where
-  pub within : i ≤ 4 * n
-  pub size : length narrow ≡ length narrow₀
-  pub none : (k : ℕ) → 2 * n ≤ k → k < i → get_or narrow k 0 ≡ 4096
-
-pub clearing_start : {n : ℕ} {narrow : List ℕ} → Clearing n narrow narrow (2 * n)
-clearing_start = record { within = omega arith; size = refl; none = λ k a b. absurd (omega arith) }
-
-module _ {n : ℕ} {narrow₀ narrow : List ℕ} {i : ℕ} (c : Clearing n narrow₀ narrow i) where
-  pub clearing_more : {narrow' : List ℕ} → i < 4 * n → 4 * n ≤ length narrow₀ → narrow' ≡ set narrow i 4096 → Clearing n narrow₀ narrow' (i + 1)
-  clearing_more {narrow'} l a e = record {
-    within = omega arith;
-    size = ap length e ∙ length-set narrow i 4096 ∙ c.size;
-    none = λ k p q. ap (λ (z : List ℕ). get_or z k 0) e ∙ go k p q (ℕ_discrete k i);
-  }
-    where
-      go : (k : ℕ) → 2 * n ≤ k → k < i + 1 → Dec (k ≡ i) → get_or (set narrow i 4096) k 0 ≡ 4096
-      go k p q (yes h) =
-          subst (λ z. get_or (set narrow i 4096) z 0 ≡ 4096) (sym h) (get_or-set_same narrow i 4096 0 (omega (arith, c.size)))
-      go k p q (no h) = get_or-set_other narrow i k 4096 0 h ∙ c.none k p (omega arith)
-
-  pub clearing_done : 4 * n ≤ i → Cleared n narrow₀ narrow
-  clearing_done l = record { size = c.size; none = λ k p q. c.none k p (omega arith) }
 
 -- what is noted at one slot -----------------------------------------------------------------------------------------------------------------------
 
@@ -144,41 +118,6 @@ noted_miss r slot {narrow} (first_one e w) i n = ap (λ (z : List ℕ). get_or z
 noted_miss r slot {narrow} (lighter _ h w) i n = ap (λ (z : List ℕ). get_or z i 0) w ∙ get_or-set_other narrow slot i r 0 n
 noted_miss r slot {narrow} (no_lighter _ h w) i n = ap (λ (z : List ℕ). get_or z i 0) w
 
--- the row `old` was noted, which costs w
-pub note_lighter : {price : ℕ → Weight} {new w : Weight} {r slot old : ℕ} {narrow narrow' : List ℕ} → old ≡ get_or narrow slot 0 → (old ≡ 4096 → ⊥)
-    → w ≡ price old → Lighter new w → narrow' ≡ set narrow slot r → Noted price new r slot narrow narrow'
-note_lighter {price} {new} eo n ew h e = lighter (λ k. n (eo ∙ k)) (subst (Lighter new) (ew ∙ ap price eo) h) e
-
-pub note_heavier : {price : ℕ → Weight} {new w : Weight} {r slot old : ℕ} {narrow narrow' : List ℕ} → old ≡ get_or narrow slot 0 → (old ≡ 4096 → ⊥)
-    → w ≡ price old → (Lighter new w → ⊥) → narrow' ≡ narrow → Noted price new r slot narrow narrow'
-note_heavier {price} {new} eo n ew h e = no_lighter (λ k. n (eo ∙ k)) (λ k. h (subst (Lighter new) (sym (ew ∙ ap price eo)) k)) e
-
--- what becomes of the row x, which is row r
-module _ {ranks : List ℕ} {read : ℕ → Row} {n v r : ℕ} {narrow narrow' : List ℕ} {x : Row} (ex : x ≡ read r) where
-  pub row_into : {new : Weight} → x.head ≡ v → (Before ranks x.tail v → ⊥) → new ≡ cost x
-      → Noted (λ s. cost (read s)) new r (into_at n x.tail) narrow narrow' → RowNoted ranks read n v r narrow narrow'
-  row_into e k c t =
-      into (subst (λ (z : Row). z.head ≡ v) ex e) (subst (λ (z : Row). Before ranks z.tail v → ⊥) ex k)
-      (subst (λ (z : Row). Noted (λ s. cost (read s)) (cost z) r (into_at n z.tail) narrow narrow') ex
-      (subst (λ (w : Weight). Noted (λ s. cost (read s)) w r (into_at n x.tail) narrow narrow') c t))
-
-  pub row_out : {new : Weight} → x.tail ≡ v → (Before ranks x.head v → ⊥) → new ≡ cost x
-      → Noted (λ s. cost (read s)) new r (out_at n x.head) narrow narrow' → RowNoted ranks read n v r narrow narrow'
-  row_out e k c t =
-      out (subst (λ (z : Row). z.tail ≡ v) ex e) (subst (λ (z : Row). Before ranks z.head v → ⊥) ex k)
-      (subst (λ (z : Row). Noted (λ s. cost (read s)) (cost z) r (out_at n z.head) narrow narrow') ex
-      (subst (λ (w : Weight). Noted (λ s. cost (read s)) w r (out_at n x.head) narrow narrow') c t))
-
-  pub row_tail_gone : Before ranks x.tail v → narrow' ≡ narrow → RowNoted ranks read n v r narrow narrow'
-  row_tail_gone q e = tail_gone (subst (λ (z : Row). Before ranks z.tail v) ex q) e
-
-  pub row_head_gone : Before ranks x.head v → narrow' ≡ narrow → RowNoted ranks read n v r narrow narrow'
-  row_head_gone q e = head_gone (subst (λ (z : Row). Before ranks z.head v) ex q) e
-
-  pub row_elsewhere : (x.head ≡ v → ⊥) → (x.tail ≡ v → ⊥) → narrow' ≡ narrow → RowNoted ranks read n v r narrow narrow'
-  row_elsewhere p q e =
-      elsewhere (subst (λ (z : Row). z.head ≡ v → ⊥) ex p) (subst (λ (z : Row). z.tail ≡ v → ⊥) ex q) e
-
 -- what is noted at all of them --------------------------------------------------------------------------------------------------------------------
 
 -- r is a row from a to b whose ends stand in v's turn
@@ -252,18 +191,21 @@ module _ (ranks : List ℕ) (read : ℕ → Row) (n v r : ℕ) (narrow narrow' :
           (other_row (Meets ranks read v v x) (λ s. cost (read s)) r _ (λ m. h (sym m.enters)) (b.out_below x l))
 
   below_one_more : RowNoted ranks read n v r narrow narrow' → NeighboursBelow ranks read n v (r + 1) narrow'
-  below_one_more (into e k t) = noted_into e k t
-  below_one_more (out e k t) = noted_out e k t
-  below_one_more (tail_gone q e) = unnoted (λ x m. m.tail_stands q) (λ x m. m.tail_stands q) e
-  below_one_more (head_gone q e) = unnoted (λ x m. m.head_stands q) (λ x m. m.head_stands q) e
+  below_one_more (into e (stands k t)) = noted_into e k t
+  below_one_more (into e (gone q same)) = unnoted (λ x m. m.tail_stands q) (λ x m. m.tail_stands q) same
+  below_one_more (out e (stands k t)) = noted_out e k t
+  below_one_more (out e (gone q same)) = unnoted (λ x m. m.head_stands q) (λ x m. m.head_stands q) same
   below_one_more (elsewhere p q e) = unnoted (λ x m. p m.enters) (λ x m. q m.leaves) e
+
+end_noted_size : {ranks : List ℕ} {price : ℕ → Weight} {v other : ℕ} {new : Weight} (r slot : ℕ) {narrow narrow' : List ℕ}
+    → EndNoted ranks price v other new r slot narrow narrow' → length narrow' ≡ length narrow
+end_noted_size r slot (stands k t) = noted_size r slot t
+end_noted_size r slot (gone q e) = ap length e
 
 row_noted_size : {ranks : List ℕ} {read : ℕ → Row} (n v r : ℕ) {narrow narrow' : List ℕ} → RowNoted ranks read n v r narrow narrow'
     → length narrow' ≡ length narrow
-row_noted_size {read = read} n v r (into e k t) = noted_size r (into_at n (read r).tail) t
-row_noted_size {read = read} n v r (out e k t) = noted_size r (out_at n (read r).head) t
-row_noted_size n v r (tail_gone q e) = ap length e
-row_noted_size n v r (head_gone q e) = ap length e
+row_noted_size {read = read} n v r (into e t) = end_noted_size r (into_at n (read r).tail) t
+row_noted_size {read = read} n v r (out e t) = end_noted_size r (out_at n (read r).head) t
 row_noted_size n v r (elsewhere p q e) = ap length e
 
 -- the pass ----------------------------------------------------------------------------------------------------------------------------------------

@@ -16,7 +16,6 @@ pub mod TurnOrder
 pub mod Turning
 pub mod PrepareRefusals
 pub mod LeastNoted
-pub mod Soonest
 pub mod LentRows
 pub mod SiftingLaws
 pub mod WitnessMeaning
@@ -24,3 +23,5 @@ pub mod Preparation
 -- what its promise allows and gives
 pub mod PrepareUnique
 pub mod TableMade
+-- a room that is lent on
+pub mod SameRoomLaws

@@ -79,12 +79,6 @@ contracts_split : {N : Network} (vs : List ℕ) {ws : List ℕ} {ss ss' : List R
 contracts_split [] {ss = ss} c = (ss, done refl, c)
 contracts_split (v ∷ vs) (turn a e c) = let (mid, d, f) = contracts_split vs c in (mid, turn a e d, f)
 
--- the table of some first turns is the front of the prepared one
-pub prepared_front : {N : Network} (vs ws : List ℕ) {mid ss : List Row} → Prepared N ss → Order N (vs ++ ws) → Contracts N vs [] mid → Front mid ss
-prepared_front {N} vs ws {mid} {ss} p o c =
-    let (mid', d, f) = contracts_split vs (subst (λ l. Contracts N l [] ss) (order_unique p.in_order o) p.contracts) in
-    contracts_front (subst (λ m. Contracts N ws m ss) (contracts_unique vs d c) f)
-
 -- every preparation has v's turn behind the same table
 pub record TurnIn (N : Network) (mid : List Row) (v : ℕ) (ss : List Row) : Type 0 where
   pub added : List Row

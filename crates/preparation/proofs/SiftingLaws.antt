@@ -5,7 +5,7 @@ use mathlib.Core.Bool.{Bool, true, false}
 use mathlib.Core.List.{List}
 use Prim.Native.Nat.{ℕ, ◌+◌, ◌*◌, ◌<◌, ◌≤◌}
 use native.Mathlib.Omega.{arith}
-use native.Mathlib.Decide.{dec_lt, ℕ_discrete}
+use native.Mathlib.Decide.{dec_lt}
 use lib.ListN.{length, get_or, set, length-set, get_or-eq_default}
 use lib.Seq.{get_or-set_same, get_or-set_other}
 use Rattle.network.specs.declared.weight.Weight.{Weight}
@@ -13,34 +13,12 @@ use Rattle.network.specs.declared.rows.Row.{Row}
 use Rattle.network.specs.Weight.{zero_weight, ◌⊕◌, Lighter, Sum}
 use Rattle.network.specs.Network.{Network, nodes, node_mode}
 use Rattle.network.specs.Rows.{Columns, row, cost, table}
-use Rattle.network.specs.Answers.{Decides}
-use Rattle.network.proofs.Scanning.{decided_true, decided_false, decides_map}
-use Rattle.network.proofs.WeightLaws.{◌≼◌, ≼_trans, ≡-≼, ≼-not_lighter, ≼-lighter, not_lighter-≼, lighter-≼, lighter_irrefl, weight-≡, ⊕-time, ⊕-edges, sum_held}
+use Rattle.network.proofs.WeightLaws.{◌≼◌, ≼_trans, ≡-≼, ≼-not_lighter, not_lighter-≼, lighter-≼, weight-≡, ⊕-time, ⊕-edges, sum_held}
 use Rattle.network.proofs.RowLaws.{row-≡, read_row, row_fine, table_length}
-use Rattle.search.specs.Witness.{Turn, node_count, row_count, told_at, Found, Witnessed, unfit, searched}
+use Rattle.search.specs.Witness.{told_at}
 use Rattle.preparation.specs.Contraction.{LeastRow, CalledFor}
 use Rattle.preparation.specs.Preparing.{InTurn, Slot, Neighbours, Marked, Tested, into_at, out_at, mark_at, sum_at, row_told}
-use Rattle.preparation.specs.Sifting.{
-  cost_read,
-  IsMarked,
-  Heavier,
-  the_first,
-  the_second,
-  SumWritten,
-  SumNoted,
-  Candidate,
-  SumOf,
-  BoundsSums,
-  Heaviest,
-  SumsNoted,
-  Prevails,
-  Sifted,
-  SiftedAt,
-  SiftedAll,
-  BoundsMore,
-  Weighed,
-  TestFits,
-}
+use Rattle.preparation.specs.Sifting.{cost_read, IsMarked, Heavier, the_first, the_second, SumWritten, SumNoted, Candidate, SumOf, BoundsSums, Heaviest, SumsNoted, Prevails, Sifted, SiftedAt, SiftedAll, Weighed, TestFits}
 use Rattle.preparation.proofs.OneTurn.{made_of}
 use Rattle.preparation.proofs.WitnessMeaning as meaning
 
@@ -107,20 +85,12 @@ module _ {n w : ℕ} {s : Weight} {wide narrow wide' narrow' : List ℕ} (h : Su
       (ap (λ (m : List ℕ). get_or m (5 * n + w) 0) h.narrow_set
       ∙ get_or-set_same (set narrow (4 * n + w) 1) (5 * n + w) s.edges 0 (simp length-set k))
 
--- what becomes of the node w, where `out` was read as the row from v to it
-module _ {costs : ℕ → Weight} {n u : ℕ} {into bound : Weight} {w : ℕ} {wide narrow : List ℕ} {out : ℕ} (eo : out ≡ get_or narrow (out_at n w) 0) where
-  pub noted_no_row : {narrow' : List ℕ} → out ≡ 4096 → narrow' ≡ set narrow (mark_at n w) 0
-      → SumNoted costs n u into bound w wide narrow wide narrow' bound
-  noted_no_row e h = SumNoted.no_row (sym eo ∙ e) refl h refl
-
-  pub noted_same_end : {narrow' : List ℕ} → (out ≡ 4096 → ⊥) → w ≡ u → narrow' ≡ set narrow (mark_at n w) 0
-      → SumNoted costs n u into bound w wide narrow wide narrow' bound
-  noted_same_end n e h = SumNoted.same_end (λ z. n (eo ∙ z)) e refl h refl
-
-  pub noted_past : {c s bound' : Weight} {wide' narrow' : List ℕ} → (out ≡ 4096 → ⊥) → (w ≡ u → ⊥) → c ≡ costs out → Sum into c s
-      → SumWritten n w s wide narrow wide' narrow' → Heavier bound s bound' → SumNoted costs n u into bound w wide narrow wide' narrow' bound'
-  noted_past {s = s} n e ec sum h up =
-      SumNoted.past (λ z. n (eo ∙ z)) e (subst (λ x. Sum into x s) (ec ∙ ap costs eo) sum) h up
+-- the node w has its sum, where `out` was read as the row from v to it
+pub noted_past : {costs : ℕ → Weight} {n u : ℕ} {into bound : Weight} {w : ℕ} {wide narrow : List ℕ} {out : ℕ} {c s bound' : Weight}
+    {wide' narrow' : List ℕ} → out ≡ get_or narrow (out_at n w) 0 → (out ≡ 4096 → ⊥) → (w ≡ u → ⊥) → c ≡ costs out → Sum into c s
+    → SumWritten n w s wide narrow wide' narrow' → Heavier bound s bound' → SumNoted costs n u into bound w wide narrow wide' narrow' bound'
+noted_past {costs} {into = into} {s = s} eo n e ec sum h up =
+    SumNoted.past (λ z. n (eo ∙ z)) e (subst (λ x. Sum into x s) (ec ∙ ap costs eo) sum) h up
 
 -- one node more
 module _ {n w : ℕ} {wide narrow wide' narrow' : List ℕ} (inside : w < n) (o : OnlyAt n w wide narrow wide' narrow') where
@@ -157,32 +127,8 @@ module _ {n w : ℕ} {wide narrow wide' narrow' : List ℕ} (inside : w < n) (o 
       one (inr f) z = inr f
 
 -- the first w of n nodes have been looked at
-pub record Noting (costs : ℕ → Weight) (n u : ℕ) (into : Weight) (wide₀ narrow₀ wide narrow : List ℕ) (bound : Weight) (w : ℕ) : Type 0 where
-  pub in_order : w ≤ n
-  pub so_far : SumsNoted costs n u into w wide₀ narrow₀ wide narrow bound
-
-pub noting_start : {costs : ℕ → Weight} {n u : ℕ} {into : Weight} {wide narrow : List ℕ}
-    → Noting costs n u into wide narrow wide narrow zero_weight 0
-noting_start = record {
-  in_order = omega arith;
-  so_far = record {
-    wide_size = refl;
-    narrow_size = refl;
-    wide_front = λ i l. refl;
-    wide_behind = λ i l. refl;
-    narrow_front = λ i l. refl;
-    narrow_between = λ i l k. refl;
-    narrow_behind = λ i l. refl;
-    each = λ w l. absurd (omega arith);
-    heaviest = record { none_heavier = λ w l. absurd (omega arith); is_one = inl refl };
-  };
-}
-
 module _ {costs : ℕ → Weight} {n u : ℕ} {into : Weight} {wide₀ narrow₀ wide narrow : List ℕ} {bound : Weight} {w : ℕ}
-    (s : Noting costs n u into wide₀ narrow₀ wide narrow bound w) where
-  sums : SumsNoted costs n u into w wide₀ narrow₀ wide narrow bound
-  sums = s.so_far
-
+    (sums : SumsNoted costs n u into w wide₀ narrow₀ wide narrow bound) where
   out_same : w < n → get_or narrow (out_at n w) 0 ≡ get_or narrow₀ (out_at n w) 0
   out_same l = sums.narrow_front (3 * n + w) (omega arith)
 
@@ -191,20 +137,17 @@ module _ {costs : ℕ → Weight} {n u : ℕ} {into : Weight} {wide₀ narrow₀
 
   noted_one : {wide' narrow' : List ℕ} {bound' : Weight} → w < n → OnlyAt n w wide narrow wide' narrow'
       → Candidate costs u w into (get_or narrow (out_at n w) 0) (sum_at wide narrow n w) (get_or narrow' (mark_at n w) 0) (sum_at wide' narrow' n w)
-      → Heaviest n wide' narrow' (w + 1) bound' → Noting costs n u into wide₀ narrow₀ wide' narrow' bound' (w + 1)
+      → Heaviest n wide' narrow' (w + 1) bound' → SumsNoted costs n u into (w + 1) wide₀ narrow₀ wide' narrow' bound'
   noted_one {wide'} {narrow'} l o this h = record {
-    in_order = omega arith;
-    so_far = record {
-      wide_size = o.wide_size ∙ sums.wide_size;
-      narrow_size = o.narrow_size ∙ sums.narrow_size;
-      wide_front = λ i a. o.wide_miss i (λ z. omega arith) ∙ sums.wide_front i a;
-      wide_behind = λ i a. o.wide_miss i (λ z. omega arith) ∙ sums.wide_behind i (omega arith);
-      narrow_front = λ i a. o.narrow_miss i (λ z. omega arith) (λ z. omega arith) ∙ sums.narrow_front i a;
-      narrow_between = λ i a b. o.narrow_miss i (λ z. omega arith) (λ z. omega arith) ∙ sums.narrow_between i (omega arith) b;
-      narrow_behind = λ i a. o.narrow_miss i (λ z. omega arith) (λ z. omega arith) ∙ sums.narrow_behind i (omega arith);
-      each = λ x a. go x a (dec_lt x w);
-      heaviest = h;
-    };
+    wide_size = o.wide_size ∙ sums.wide_size;
+    narrow_size = o.narrow_size ∙ sums.narrow_size;
+    wide_front = λ i a. o.wide_miss i (λ z. omega arith) ∙ sums.wide_front i a;
+    wide_behind = λ i a. o.wide_miss i (λ z. omega arith) ∙ sums.wide_behind i (omega arith);
+    narrow_front = λ i a. o.narrow_miss i (λ z. omega arith) (λ z. omega arith) ∙ sums.narrow_front i a;
+    narrow_between = λ i a b. o.narrow_miss i (λ z. omega arith) (λ z. omega arith) ∙ sums.narrow_between i (omega arith) b;
+    narrow_behind = λ i a. o.narrow_miss i (λ z. omega arith) (λ z. omega arith) ∙ sums.narrow_behind i (omega arith);
+    each = λ x a. go x a (dec_lt x w);
+    heaviest = h;
   }
     where
       here : Candidate costs u w into (get_or narrow₀ (out_at n w) 0) (sum_at wide₀ narrow₀ n w) (get_or narrow' (mark_at n w) 0)
@@ -222,7 +165,7 @@ module _ {costs : ℕ → Weight} {n u : ℕ} {into : Weight} {wide₀ narrow₀
           (sum_at wide' narrow' n y)) e here
 
   pub noting_more : {wide' narrow' : List ℕ} {bound' : Weight} → w < n → TestFits n u (length wide₀) (length narrow₀)
-      → SumNoted costs n u into bound w wide narrow wide' narrow' bound' → Noting costs n u into wide₀ narrow₀ wide' narrow' bound' (w + 1)
+      → SumNoted costs n u into bound w wide narrow wide' narrow' bound' → SumsNoted costs n u into (w + 1) wide₀ narrow₀ wide' narrow' bound'
   noting_more {wide'} {narrow'} {bound'} l room = go
     where
       in_wide : n + w < length wide
@@ -238,7 +181,7 @@ module _ {costs : ℕ → Weight} {n u : ℕ} {into : Weight} {wide₀ narrow₀
       skipped ew en eb =
           heaviest_more l (unmarked_only n w wide narrow ew en) sums.heaviest (≡-≼ (sym eb)) (λ m. absurd (omega (arith, m, zero ew en))) (inl eb)
 
-      go : SumNoted costs n u into bound w wide narrow wide' narrow' bound' → Noting costs n u into wide₀ narrow₀ wide' narrow' bound' (w + 1)
+      go : SumNoted costs n u into bound w wide narrow wide' narrow' bound' → SumsNoted costs n u into (w + 1) wide₀ narrow₀ wide' narrow' bound'
       go (SumNoted.no_row r ew en eb) =
           noted_one l (unmarked_only n w wide narrow ew en) (Candidate.no_row r (zero ew en) (unmarked_sum n w wide narrow ew en l)) (skipped ew en eb)
       go (SumNoted.same_end r e ew en eb) =
@@ -259,12 +202,6 @@ module _ {costs : ℕ → Weight} {n u : ℕ} {into : Weight} {wide₀ narrow₀
             weighs = written_sum h in_wide in_narrow ∙ sym f;
           })
 
-  -- all of them, where `into` is what the row k costs
-  pub noting_done : {r k : ℕ} → n ≤ w → into ≡ costs r → r ≡ k → SumsNoted costs n u (costs k) n wide₀ narrow₀ wide narrow bound
-  noting_done {r} {k} l ei ek =
-      let e : w ≡ n = omega (arith, s.in_order) in
-      subst₂ (λ (x : Weight) (i : ℕ). SumsNoted costs n u x i wide₀ narrow₀ wide narrow bound) (ei ∙ ap costs ek) e sums
-
 -- sifting ------------------------------------------------------------------------------------------------------------------------------------------
 
 -- what is marked is there
@@ -274,19 +211,6 @@ marked_in l i m = go (dec_lt i (length l))
     go : Dec (i < length l) → i < length l
     go (yes h) = h
     go (no h) = let k : length l ≤ i = omega arith in absurd (omega (arith, m, get_or-eq_default l 0 k))
-
--- what becomes of the mark of the node w, read as m, with the weights t and s read as what was told and as the sum
-module _ {n : ℕ} {around : Bool} {w : ℕ} {wide narrow : List ℕ} {m : ℕ} (em : m ≡ get_or narrow (mark_at n w) 0) where
-  pub sift_unmarked : (m ≡ 1 → ⊥) → SiftedAt n around w wide narrow narrow
-  sift_unmarked k = SiftedAt.unmarked (λ z. k (em ∙ z)) refl
-
-  pub sift_stays : {t s : Weight} → m ≡ 1 → t ≡ told_at wide narrow w → s ≡ sum_at wide narrow n w → Prevails around t s
-      → SiftedAt n around w wide narrow narrow
-  sift_stays o et es h = SiftedAt.stays (sym em ∙ o) (subst₂ (Prevails around) et es h) refl
-
-  pub sift_drops : {t s : Weight} {narrow' : List ℕ} → m ≡ 1 → t ≡ told_at wide narrow w → s ≡ sum_at wide narrow n w → (Prevails around t s → ⊥)
-      → narrow' ≡ set narrow (mark_at n w) 0 → SiftedAt n around w wide narrow narrow'
-  sift_drops o et es h e = SiftedAt.dropped (sym em ∙ o) (λ k. h (subst₂ (Prevails around) (sym et) (sym es) k)) e
 
 -- one mark is sifted
 module _ (n : ℕ) {around : Bool} (w : ℕ) (wide narrow : List ℕ) {narrow' : List ℕ} (h : SiftedAt n around w wide narrow narrow') where
@@ -317,31 +241,15 @@ module _ (n : ℕ) {around : Bool} (w : ℕ) (wide narrow : List ℕ) {narrow' :
           (ap (λ (l : List ℕ). get_or l (4 * n + w) 0) e ∙ get_or-set_same narrow (4 * n + w) 0 0 (marked_in narrow (4 * n + w) m))
 
 -- the marks of the first w of n nodes have been sifted
-pub record Sieving (n : ℕ) (around : Bool) (wide narrow₀ narrow : List ℕ) (w : ℕ) : Type 0 where
-  pub in_order : w ≤ n
-  pub so_far : SiftedAll n around w wide narrow₀ narrow
-
-pub sieving_start : {n : ℕ} {around : Bool} {wide narrow : List ℕ} → Sieving n around wide narrow narrow 0
-sieving_start = record {
-  in_order = omega arith;
-  so_far = record { size = refl; front = λ i l. refl; behind = λ i l. refl; each = λ w l. absurd (omega arith) };
-}
-
-module _ {n : ℕ} {around : Bool} {wide narrow₀ narrow : List ℕ} {w : ℕ} (s : Sieving n around wide narrow₀ narrow w) where
-  pub sieving_more : {narrow' : List ℕ} → w < n → SiftedAt n around w wide narrow narrow' → Sieving n around wide narrow₀ narrow' (w + 1)
+module _ {n : ℕ} {around : Bool} {wide narrow₀ narrow : List ℕ} {w : ℕ} (all : SiftedAll n around w wide narrow₀ narrow) where
+  pub sieving_more : {narrow' : List ℕ} → w < n → SiftedAt n around w wide narrow narrow' → SiftedAll n around (w + 1) wide narrow₀ narrow'
   sieving_more {narrow'} l h = record {
-    in_order = omega arith;
-    so_far = record {
-      size = sifted_size n w wide narrow h ∙ all.size;
-      front = λ i a. sifted_miss n w wide narrow h i (λ z. omega arith) ∙ all.front i a;
-      behind = λ i a. sifted_miss n w wide narrow h i (λ z. omega arith) ∙ all.behind i (omega arith);
-      each = λ x a. go x a (dec_lt x w);
-    };
+    size = sifted_size n w wide narrow h ∙ all.size;
+    front = λ i a. sifted_miss n w wide narrow h i (λ z. omega arith) ∙ all.front i a;
+    behind = λ i a. sifted_miss n w wide narrow h i (λ z. omega arith) ∙ all.behind i (omega arith);
+    each = λ x a. go x a (dec_lt x w);
   }
     where
-      all : SiftedAll n around w wide narrow₀ narrow
-      all = s.so_far
-
       told_same : told_at wide narrow w ≡ told_at wide narrow₀ w
       told_same = weight-≡ refl (all.front (2 * w) (omega arith))
 
@@ -363,91 +271,7 @@ module _ {n : ℕ} {around : Bool} {wide narrow₀ narrow : List ℕ} {w : ℕ} 
           subst (λ (y : ℕ). Sifted around (told_at wide narrow₀ y) (sum_at wide narrow₀ n y) (get_or narrow₀ (mark_at n y) 0)
           (get_or narrow' (mark_at n y) 0)) e here
 
-  pub sieving_done : n ≤ w → SiftedAll n around n wide narrow₀ narrow
-  sieving_done l = let e : w ≡ n = omega (arith, s.in_order) in subst (λ (i : ℕ). SiftedAll n around i wide narrow₀ narrow) e s.so_far
-
--- a search, and then the sifting
--- the bound of the sums that are still marked
-module _ {n w : ℕ} {wide narrow : List ℕ} {b : Weight} where
-  pub bounds_unmarked : {m : ℕ} → m ≡ get_or narrow (mark_at n w) 0 → (m ≡ 1 → ⊥) → BoundsMore n wide narrow w b b
-  bounds_unmarked e n = record { no_less = lighter_irrefl; bounds_sum = λ m l. n (e ∙ m) }
-
-  pub bounds_marked : {s b' : Weight} → s ≡ sum_at wide narrow n w → Heavier b s b' → BoundsMore n wide narrow w b b'
-  bounds_marked {b' = b'} e h = record {
-    no_less = ≼-not_lighter (heavier_first h);
-    bounds_sum = λ m l. ≼-not_lighter (heavier_second h) (subst (Lighter b') (sym e) l);
-  }
-
-pub record Bounding (n : ℕ) (wide narrow : List ℕ) (b : Weight) (w : ℕ) : Type 0 where
-  pub in_order : w ≤ n
-  pub so_far : BoundsSums n wide narrow w b
-
-pub bounding_start : {n : ℕ} {wide narrow : List ℕ} {b : Weight} → Bounding n wide narrow b 0
-bounding_start = record { in_order = omega arith; so_far = λ x l. absurd (omega arith) }
-
-module _ {n w : ℕ} {wide narrow : List ℕ} {b : Weight} (s : Bounding n wide narrow b w) where
-  pub bounding_more : {b' : Weight} → w < n → BoundsMore n wide narrow w b b' → Bounding n wide narrow b' (w + 1)
-  bounding_more {b'} l m = record { in_order = omega arith; so_far = λ x h. go x h (ℕ_discrete x w) }
-    where
-      go : (x : ℕ) → x < w + 1 → Dec (x ≡ w) → IsMarked narrow n x → Lighter b' (sum_at wide narrow n x) → ⊥
-      go x h (yes e) = subst (λ (y : ℕ). IsMarked narrow n y → Lighter b' (sum_at wide narrow n y) → ⊥) (sym e) m.bounds_sum
-      go x h (no d) = λ k j. s.so_far x (omega (arith, h, d)) k (≼-lighter (not_lighter-≼ m.no_less) j)
-
-  pub bounding_done : n ≤ w → BoundsSums n wide narrow n b
-  bounding_done l x h = s.so_far x (omega arith)
-
-pub searched_rooms : {Q : Turn} {u : ℕ} {bound : Weight} (wide narrow : List ℕ) {wide' narrow' : List ℕ} {a : Bool}
-    → TestFits (node_count Q) u (length wide) (length narrow) → row_count Q ≤ 4096 → Witnessed Q u bound wide narrow wide' narrow' a
-    → Found Q u bound wide narrow wide' narrow'
-searched_rooms wide narrow room few (searched f e h) = h
-searched_rooms wide narrow room few (unfit n e h) = absurd (n (record {
-  few_nodes = room.few_nodes;
-  from_node = room.is_node;
-  wide_enough = omega (arith, room.wide_enough);
-  narrow_enough = omega (arith, room.narrow_enough);
-  few_rows = few;
-}))
-
-pub weighed : {Q : Turn} {u : ℕ} {bound : Weight} (wide narrow wide₁ narrow₁ : List ℕ) {narrow' : List ℕ} {a : Bool}
-    → TestFits (node_count Q) u (length wide) (length narrow) → row_count Q ≤ 4096 → Witnessed Q u bound wide narrow wide₁ narrow₁ a
-    → SiftedAll (node_count Q) Q.around (node_count Q) wide₁ narrow₁ narrow' → Weighed Q u bound (node_count Q) wide narrow wide₁ narrow'
-weighed {Q} {u} {bound} wide narrow wide₁ narrow₁ {narrow'} room few found s = record {
-  wide_size = f.rest_same.wide_size;
-  narrow_size = s.size ∙ f.rest_same.narrow_size;
-  wide_rest = f.rest_same.wide_rest;
-  slots_same = λ i a b. s.front i b ∙ f.rest_same.narrow_rest i a;
-  narrow_behind = λ i a. s.behind i (omega arith) ∙ f.rest_same.narrow_rest i (omega arith);
-  each = λ w l. record {
-    told = told_at wide₁ narrow₁ w;
-    reported = f.told w l;
-    sifted = subst₂ (λ x y. Sifted Q.around (told_at wide₁ narrow₁ w) x y (get_or narrow' (mark_at n w) 0))
-        (weight-≡ (f.rest_same.wide_rest (n + w) (omega arith)) (f.rest_same.narrow_rest (5 * n + w) (omega arith)))
-        (f.rest_same.narrow_rest (4 * n + w) (omega arith)) (s.each w l);
-  };
-}
-  where
-    n : ℕ
-    n = node_count Q
-
-    f : Found Q u bound wide narrow wide₁ narrow₁
-    f = searched_rooms wide narrow room few found
-
 -- the test -----------------------------------------------------------------------------------------------------------------------------------------
-
--- the rooms are large enough throughout
-pub test_sizes : {N : Network} {T : Columns} {v u wl nl wl' nl' : ℕ} → InTurn N T v wl nl → u < nodes N → wl' ≡ wl → nl' ≡ nl
-    → TestFits (nodes N) u wl' nl'
-test_sizes turn l a b = record {
-  few_nodes = turn.sound.sized.few_nodes;
-  is_node = l;
-  wide_enough = omega (arith, turn.roomy.wide_enough);
-  narrow_enough = omega (arith, turn.roomy.narrow_enough);
-}
-
-pub search_sizes : {N : Network} {T : Columns} {v u wl nl wl' nl' : ℕ} → InTurn N T v wl nl → u < nodes N → wl' ≡ wl → nl' ≡ nl
-    → TestFits (length N.node_ranks) u wl' nl'
-search_sizes {u = u} {wl' = wl'} {nl' = nl'} turn l a b =
-    subst (λ (n : ℕ). TestFits n u wl' nl') (sym turn.sound.sized.ranks_even) (test_sizes turn l a b)
 
 pub search_rows : {N : Network} {T : Columns} {v wl nl : ℕ} → InTurn N T v wl nl → length N.tails + length T.tails ≤ 4096
 search_rows {T = T} turn = omega (arith, turn.sound_table.few, table_length T)
@@ -478,20 +302,6 @@ prevails_least (Prevails.alone e l) = absurd (false_true e)
 prevails_alone : {told sum : Weight} → Prevails true told sum → Lighter sum told
 prevails_alone (Prevails.least e n) = absurd (false_true (sym e))
 prevails_alone (Prevails.alone e l) = l
-
--- a test whether a sum prevails
-pub decides_alone : {around : Bool} (r : Bool) (told sum : Weight) → around ≡ true → Decides r (Lighter sum told)
-    → Decides r (Prevails around told sum)
-decides_alone r told sum e =
-    decides_map r (Prevails.alone e) (λ h. prevails_alone (subst (λ (b : Bool). Prevails b told sum) e h))
-
-pub decides_least : {around : Bool} {told sum : Weight} → around ≡ false → {r : Bool} → Decides r (Lighter told sum) → r ≡ false
-    → Prevails around told sum
-decides_least e d f = Prevails.least e (decided_false d f)
-
-pub decides_beaten : {around : Bool} {told sum : Weight} → around ≡ false → {r : Bool} → Decides r (Lighter told sum) → r ≡ true
-    → Prevails around told sum → ⊥
-decides_beaten {told = told} {sum = sum} e d f h = prevails_least (subst (λ (b : Bool). Prevails b told sum) e h) (decided_true d f)
 
 module _ {N : Network} {T : Columns} {v u : ℕ} (wide narrow : List ℕ) (turn : InTurn N T v (length wide) (length narrow))
     (near : Neighbours N (table T) v narrow) (inside : u < nodes N) (some : get_or narrow (into_at (nodes N) u) 0 ≡ 4096 → ⊥) where

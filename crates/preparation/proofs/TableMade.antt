@@ -10,7 +10,7 @@ use lib.Seq.{length-take-le}
 use Rattle.network.specs.declared.answer.Answer.{Answer}
 use Rattle.network.specs.declared.rows.Row.{Row}
 use Rattle.network.specs.Network.{Network, nodes, Sized, Sound}
-use Rattle.network.specs.Sheet.{Sheet}
+use Rattle.network.specs.declared.sheet.Sheet.{Sheet}
 use Rattle.network.specs.Rows.{Columns, table, RowsSized, SoundTable}
 use Rattle.network.specs.Refusal.{Rule, Refused, Passed, sizes, entries_order, shortcut_rows, sheet_rules, question}
 use Rattle.network.proofs.Checking.{passed_sound}
@@ -19,7 +19,7 @@ use Rattle.search.specs.Orders.{work_rooms, plain_order, rows_order}
 use Rattle.search.proofs.RefusalLaws.{refused_avoids}
 use Rattle.preparation.specs.Contraction.{Prepared}
 use Rattle.preparation.specs.Answers.{Fits, Holds, PreparedInto, exceeds, prepares, prepare_order, refuses}
-use Rattle.preparation.specs.Preparing.{front}
+use Rattle.network.specs.Lent.{front_columns}
 use Rattle.preparation.proofs.PreparedSound.{prepared_sound}
 use Rattle.preparation.proofs.ColumnLaws.{front_even, holds_front}
 
@@ -50,7 +50,7 @@ pub record Made (N : Network) (T : Columns) : Type 0 where
   pub sound_table : SoundTable N (table T)
 
 made_front : {N : Network} {T : Columns} {lent : ℕ} {ss : List Row} → Sound N → Prepared N ss → Fits N ss lent → Holds T lent ss
-    → Made N (front (length ss) T)
+    → Made N (front_columns (length ss) T)
 made_front {N} {T} {lent} {ss} s p f h = record {
   sound = s;
   prepared = subst (Prepared N) (sym e) p;
@@ -64,18 +64,18 @@ made_front {N} {T} {lent} {ss} s p f h = record {
     inside : length ss ≤ length T.tails
     inside = omega (arith, h.size, f.rows_lent)
 
-    e : table (front (length ss) T) ≡ ss
+    e : table (front_columns (length ss) T) ≡ ss
     e = holds_front h f.rows_lent
 
 pub table_made : {N : Network} {T T' : Columns} {wide wide' narrow narrow' : List ℕ} {p : Answer}
-    → PreparedInto N T T' wide wide' narrow narrow' p → p.number ≡ 0 → Made N (front p.count T')
+    → PreparedInto N T T' wide wide' narrow narrow' p → p.number ≡ 0 → Made N (front_columns p.count T')
 table_made {N} {T} {wide = wide} {narrow = narrow} (refuses {number = n} {place = k} r e t u) z =
     absurd (refused_avoids (prepare_order N T (length wide) (length narrow)) 0 n k
     ((λ d. omega arith), ((λ d. omega arith), ((λ d. omega arith), ((λ d. omega arith), ((λ d. omega arith), tt))))) r
     (sym (ap (λ (x : Answer). x.number) e) ∙ z))
 table_made (exceeds q n e h u) z = absurd (omega (arith, ap (λ (x : Answer). x.number) e))
 table_made {N} {T' = T'} (prepares {ss = ss} q p f e h u) z =
-    subst (λ (k : ℕ). Made N (front k T')) (sym (ap (λ (x : Answer). x.count) e))
+    subst (λ (k : ℕ). Made N (front_columns k T')) (sym (ap (λ (x : Answer). x.count) e))
     (made_front (passed_sound N (q.0.0, (q.1.1.0, (q.1.1.1.0, (q.1.1.1.1.0, tt))))) p f h)
 
 -- over it the search over rows is refused where the plain search is, by the same rule and of the same place

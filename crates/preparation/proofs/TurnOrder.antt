@@ -1,20 +1,19 @@
 -- The order of contraction: there is one, and the scan for the next turn goes through it.
 use mathlib.Core.Path.{◌≡◌, refl, sym, ap, subst, ◌∙◌}
 use mathlib.Core.Logic.{◌⊎◌, inl, inr, ⊎_elim}
-use mathlib.Core.Bool.{Bool, true, false}
 use mathlib.Core.List.{List, [], ◌∷◌, Memᴰ}
-use Prim.Native.Nat.{ℕ, zero, suc, ◌<◌, ◌≤◌}
+use Prim.Native.Nat.{ℕ, zero, suc, ◌<◌}
 use native.Mathlib.Omega.{arith}
 use native.Mathlib.Decide.{dec_lt, ℕ_discrete}
 use lib.ListN.{get_or}
+use Rattle.std.specs.Prelude.{Option, Some, None}
 use Rattle.network.specs.Order.{Core, Before}
 use Rattle.network.specs.Network.{Network, nodes, Sound}
 use Rattle.network.proofs.OrderLaws.{before_dec, before_trans, before_irrefl, before_total}
 use Rattle.preparation.specs.Contraction.{Turns, over, last, then, Order}
-use Rattle.preparation.specs.Preparing.{Due, NextTurn, no_turn, turn_of}
+use Rattle.preparation.specs.Preparing.{Due, NextTurn}
 use Rattle.preparation.proofs.SortedLists.{Sorted}
 use Rattle.preparation.proofs.RemainingTurns.{Remaining}
-use Rattle.preparation.proofs.Soonest.{due_first}
 
 -- there is an order -------------------------------------------------------------------------------------------------------------------------------
 
@@ -126,60 +125,57 @@ order_exists N =
 -- the scan for the next turn goes through it ------------------------------------------------------------------------------------------------------
 
 -- the nodes that are due are those of vs
-pub record DueAre (N : Network) (begun : Bool) (last : ℕ) (vs : List ℕ) : Type 0 where
-  pub all : (x : ℕ) → x < nodes N → Due N.node_ranks begun last x → Memᴰ x vs
-  pub only : (x : ℕ) → x < nodes N → Memᴰ x vs → Due N.node_ranks begun last x
+pub record DueAre (N : Network) (last : Option ℕ) (vs : List ℕ) : Type 0 where
+  pub all : (x : ℕ) → x < nodes N → Due N.node_ranks last x → Memᴰ x vs
+  pub only : (x : ℕ) → x < nodes N → Memᴰ x vs → Due N.node_ranks last x
 
-pub due_start : {N : Network} {last : ℕ} {vs : List ℕ} → Order N vs → DueAre N false last vs
-due_start o = record { all = λ x l d. o.complete x l d.not_core; only = λ x l m. due_first refl (o.contractible x m).1 }
+pub due_start : {N : Network} {vs : List ℕ} → Order N vs → DueAre N None vs
+due_start o =
+    record { all = λ x l d. o.complete x l d.not_core; only = λ x l m. record { not_core = (o.contractible x m).1; behind = λ y e. absurd cc } }
 
 -- v comes next: it is the first of those to come, and the others are due behind it
 pub record Next (N : Network) (vs : List ℕ) (v : ℕ) : Type 0 where
   pub others : List ℕ
   pub first : vs ≡ v ∷ others
-  pub due_are : DueAre N true v others
+  pub due_are : DueAre N (Some v) others
 
-module _ {N : Network} (s : Sound N) where
-  pub next_none : {begun : Bool} {last v : ℕ} {vs : List ℕ} → Remaining N vs → DueAre N begun last vs → NextTurn N.node_ranks begun last v
-      → nodes N ≤ v → vs ≡ []
-  next_none {begun} {last} r d (turn_of a q b) l = absurd (omega (arith, s.sized.ranks_even))
-  next_none {begun} {last} {vs = vs} r d (no_turn a b) l = go vs r d
+module _ {N : Network} (s : Sound N) {last : Option ℕ} where
+  pub next_none : {vs : List ℕ} → Remaining N vs → DueAre N last vs → NextTurn N.node_ranks last None → vs ≡ []
+  next_none {vs} r d b = go vs r d
     where
-      go : (ws : List ℕ) → Remaining N ws → DueAre N begun last ws → ws ≡ []
+      go : (ws : List ℕ) → Remaining N ws → DueAre N last ws → ws ≡ []
       go [] r d = refl
       go (w ∷ ws) r d =
           let node : w < nodes N = (r.contractible w (mathlib.Core.List.Memᴰ.head refl)).0 in
           absurd (b w (omega (arith, s.sized.ranks_even)) (d.only w node (mathlib.Core.List.Memᴰ.head refl)))
 
-  module _ {begun : Bool} {last v : ℕ} where
-    due_next : (w : ℕ) (ws : List ℕ) → Remaining N (w ∷ ws) → DueAre N begun last (w ∷ ws) → Due N.node_ranks begun last v → w ≡ v
-        → Next N (w ∷ ws) v
+  module _ {v : ℕ} where
+    due_next : (w : ℕ) (ws : List ℕ) → Remaining N (w ∷ ws) → DueAre N last (w ∷ ws) → Due N.node_ranks last v → w ≡ v → Next N (w ∷ ws) v
     due_next w ws r d q e = record {
       others = ws;
       first = ap (λ (z : ℕ). z ∷ ws) e;
       due_are = record {
         all = λ x l f. ⊎_elim
-            (λ z. absurd (before_irrefl (subst (Before N.node_ranks v) (z ∙ e) (f.behind refl))))
+            (λ z. absurd (before_irrefl (subst (Before N.node_ranks v) (z ∙ e) (f.behind v refl))))
             (λ m. m)
             (mathlib.Core.List.Memᴰ.cases_cons (d.all x l (record {
               not_core = f.not_core;
-              behind = λ b. before_trans (q.behind b) (f.behind refl);
+              behind = λ y b. before_trans (q.behind y b) (f.behind v refl);
             })));
         only = λ x l m. record {
           not_core = (r.contractible x (mathlib.Core.List.Memᴰ.tail m)).1;
-          behind = λ _. subst (λ z. Before N.node_ranks z x) e (r.sorted.0 x m);
+          behind = λ y b. let k : w ≡ y = cc in subst (λ z. Before N.node_ranks z x) k (r.sorted.0 x m);
         };
       };
     }
 
-    pub next_some : {vs : List ℕ} → Remaining N vs → DueAre N begun last vs → NextTurn N.node_ranks begun last v → v < nodes N → Next N vs v
-    next_some {vs} r d (no_turn a b) l = absurd (omega (arith, s.sized.ranks_even))
-    next_some {vs} r d (turn_of a q b) l = go vs r d (d.all v l q)
+    pub next_some : {vs : List ℕ} → Remaining N vs → DueAre N last vs → NextTurn N.node_ranks last (Some v) → Next N vs v
+    next_some {vs} r d t = go vs r d (d.all v (omega (arith, t.below, s.sized.ranks_even)) t.due)
       where
-        go : (ws : List ℕ) → Remaining N ws → DueAre N begun last ws → Memᴰ v ws → Next N ws v
+        go : (ws : List ℕ) → Remaining N ws → DueAre N last ws → Memᴰ v ws → Next N ws v
         go [] r d m = absurd (mathlib.Core.List.Memᴰ.not-nil m)
         go (w ∷ ws) r d m =
             let node : w < nodes N = (r.contractible w (mathlib.Core.List.Memᴰ.head refl)).0 in
             let sooner : Memᴰ v ws → ⊥ =
-            λ k. b w (omega (arith, s.sized.ranks_even)) (d.only w node (mathlib.Core.List.Memᴰ.head refl)) (r.sorted.0 v k) in
-            due_next w ws r d q (⊎_elim (λ e. sym e) (λ k. absurd (sooner k)) (mathlib.Core.List.Memᴰ.cases_cons m))
+            λ k. t.none_before w (omega (arith, s.sized.ranks_even)) (d.only w node (mathlib.Core.List.Memᴰ.head refl)) (r.sorted.0 v k) in
+            due_next w ws r d t.due (⊎_elim (λ e. sym e) (λ k. absurd (sooner k)) (mathlib.Core.List.Memᴰ.cases_cons m))

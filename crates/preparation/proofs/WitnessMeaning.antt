@@ -24,16 +24,14 @@ use Rattle.network.proofs.WeightLaws.{
   early_lighter_none,
 }
 use Rattle.network.proofs.RowLaws.{table_length, read_row, row_fine}
-use Rattle.search.specs.Witness.{Turn, turn_of, row_count, ridden, Ride, Path, stay, onward, along_rides, path_weight, Reported, within, beyond}
+use Rattle.search.specs.Witness.{Turn, row_count, ridden, Ride, Path, stay, onward, along_rides, path_weight, Reported, within, beyond}
 use Rattle.preparation.specs.Contraction.{Standing, Through, here, on, Avoids, LeastRow, CalledFor}
 use Rattle.preparation.proofs.PreparedUnique.{least_row_unique}
 use Rattle.preparation.proofs.OneTurn.{made_of, made_cost}
 
 -- the search in v's turn, around v or not
 abbrev pub search_of : Network → Columns → ℕ → Bool → Turn
-search_of N T v around =
-    turn_of N.node_ranks N.tails N.heads N.modes N.lengths T.tails T.heads T.modes T.lengths T.counts T.firsts
-    T.seconds v around
+search_of N T v around = record { roads = N; shortcuts = T; node = v; around = around }
 
 module _ (N : Network) (T : Columns) (s : Sound N) (even : Even T) (t : SoundTable N (table T)) (v : ℕ) where
   -- what a search rides is the table's row, and it rides all rows

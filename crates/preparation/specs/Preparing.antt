@@ -1,10 +1,11 @@
 -- What the inner functions of preparation promise each other. No entry point's promise rests on these words.
-use Rattle.std.specs.Prelude.{◌≡◌, Bool, true, cond, ℕ, zero, suc, ◌+◌, ◌*◌, ◌%◌, ◌<◌, ◌≤◌, eqb, length, get_or, take, set}
+use Rattle.std.specs.Prelude.{◌≡◌, cond, Option, Some, None, ℕ, zero, suc, ◌+◌, ◌*◌, ◌%◌, ◌<◌, ◌≤◌, eqb, length, get_or, set}
 use mathlib.Core.List.{List, [], ◌∷◌, ◌++◌, Memᴰ}
 use Rattle.network.specs.declared.weight.Weight.{Weight}
 use Rattle.network.specs.declared.rows.Row.{Row}
 use Rattle.network.specs.Order.{Core, Before}
 use Rattle.network.specs.Network.{Network, nodes, node_mode, Sound}
+use Rattle.network.specs.Lent.{front_columns}
 use Rattle.network.specs.Rows.{Columns, columns, Even, row, table, SoundTable}
 use Rattle.search.specs.Orders.{Roomy}
 use Rattle.preparation.specs.Contraction.{Standing, LeastRow, CalledFor, Rising, Adds, Prepared}
@@ -12,15 +13,24 @@ use Rattle.preparation.specs.Contraction.{Standing, LeastRow, CalledFor, Rising,
 -- whose turn it is -------------------------------------------------------------------------------------------------------------------------------
 
 -- x is still to be contracted when `last` was contracted last, or, where no turn has been, when none was
-pub record Due (ranks : List ℕ) (begun : Bool) (last x : ℕ) : Type 0 where
+pub record Due (ranks : List ℕ) (last : Option ℕ) (x : ℕ) : Type 0 where
   pub not_core : Core ranks x → ⊥
-  pub behind : begun ≡ true → Before ranks last x
+  pub behind : (y : ℕ) → last ≡ Some y → Before ranks y x
 
--- the first of the nodes that are due, or no node
-pub data NextTurn (ranks : List ℕ) (begun : Bool) (last v : ℕ) : Type 0 where
-  no_turn : length ranks ≤ v → ((x : ℕ) → x < length ranks → Due ranks begun last x → ⊥) → NextTurn ranks begun last v
-  turn_of : v < length ranks → Due ranks begun last v → ((x : ℕ) → x < length ranks → Due ranks begun last x → Before ranks x v → ⊥)
-      → NextTurn ranks begun last v
+-- v is the first of the nodes below n that are due
+pub record FirstDue (ranks : List ℕ) (last : Option ℕ) (v n : ℕ) : Type 0 where
+  pub below : v < n
+  pub due : Due ranks last v
+  pub none_before : (x : ℕ) → x < n → Due ranks last x → Before ranks x v → ⊥
+
+-- it is that one, or there is none
+abbrev pub NextBelow : (ranks : List ℕ) → Option ℕ → (n : ℕ) → Option ℕ → Type 0
+NextBelow ranks last n (Some v) = FirstDue ranks last v n
+NextBelow ranks last n None = (x : ℕ) → x < n → Due ranks last x → ⊥
+
+-- the first of the nodes that are due, or none
+abbrev pub NextTurn : (ranks : List ℕ) → (last next : Option ℕ) → Type 0
+NextTurn ranks last next = NextBelow ranks last (length ranks) next
 
 -- v's turn over the rows that stood before its first shortcut: those of the columns T
 pub record InTurn (N : Network) (T : Columns) (v wide narrow : ℕ) : Type 0 where
@@ -83,12 +93,6 @@ pub record Tested (N : Network) (ss : List Row) (v u : ℕ) (wide narrow wide' n
 
 -- the lent rows ----------------------------------------------------------------------------------------------------------------------------------
 
--- the first k of them
-abbrev pub front : ℕ → Columns → Columns
-front k T =
-    columns (take k T.tails) (take k T.heads) (take k T.modes) (take k T.lengths) (take k T.counts) (take k T.firsts)
-    (take k T.seconds)
-
 -- with x at i
 abbrev pub put_row : Columns → ℕ → Row → Columns
 put_row T i x =
@@ -107,10 +111,22 @@ marked_rows n mode u wide narrow zero = []
 marked_rows n mode u wide narrow (suc k) =
     marked_rows n mode u wide narrow k ++ cond (eqb (get_or narrow (mark_at n k) 0) 1) (row_told n mode u k wide narrow ∷ []) []
 
--- The rows `new` go behind the first `at`, up to the limit; at' is above the limit where they do not all fit.
-pub data Appended (T : Columns) (at limit : ℕ) (new : List Row) (T' : Columns) (at' : ℕ) : Type 0 where
-  fits : at' ≡ at + length new → at' ≤ limit → SameSize T T' → table (front at' T') ≡ table (front at T) ++ new → Appended T at limit new T' at'
-  exceeds : limit < at + length new → limit < at' → SameSize T T' → Appended T at limit new T' at'
+-- the rows `new` stand behind the first `at`, within the limit, and there are at' rows then
+pub record Appends (T : Columns) (at limit : ℕ) (new : List Row) (T' : Columns) (at' : ℕ) : Type 0 where
+  pub counted : at' ≡ at + length new
+  pub within : at' ≤ limit
+  pub same_size : SameSize T T'
+  pub shows : table (front_columns at' T') ≡ table (front_columns at T) ++ new
+
+-- they are too many for the limit
+pub record Overruns (T : Columns) (at limit : ℕ) (new : List Row) (T' : Columns) : Type 0 where
+  pub beyond : limit < at + length new
+  pub same_size : SameSize T T'
+
+-- The rows `new` go behind the first `at`, up to the limit: there are at' rows then, or they do not all fit.
+abbrev pub Appended : (T : Columns) (at limit : ℕ) (new : List Row) (T' : Columns) → Option ℕ → Type 0
+Appended T at limit new T' (Some at') = Appends T at limit new T' at'
+Appended T at limit new T' None = Overruns T at limit new T'
 
 -- as many shortcuts as there may be with so many edges in so many lent rows
 pub record Most (edges lent most : ℕ) : Type 0 where
@@ -133,22 +149,41 @@ pub record SameRooms (wide narrow wide' narrow' : List ℕ) : Type 0 where
   pub narrow_size : length narrow' ≡ length narrow
 
 -- v's turn so far as it concerns u: what was appended, and the rooms
-pub record TurnFrom (N : Network) (ss : List Row) (v u limit at : ℕ) (T T' : Columns) (wide narrow wide' narrow' : List ℕ) (at' : ℕ) : Type 0 where
+pub record TurnFrom (N : Network) (ss : List Row) (v u limit at : ℕ) (T T' : Columns) (wide narrow wide' narrow' : List ℕ) (at' : Option ℕ)
+    : Type 0 where
   pub new : List Row
   pub adds : AddsFrom N ss v u new
   pub appended : Appended T at limit new T' at'
   pub same_rooms : SameRooms wide narrow wide' narrow'
   pub neighbours : Neighbours N ss v narrow'
 
--- v's whole turn, over the first `stood` rows of T
-pub data Turned (N : Network) (v stood limit : ℕ) (T T' : Columns) (at : ℕ) : Type 0 where
-  turned : {new : List Row} → Adds N (table (front stood T)) v new → at ≤ limit → Appended T stood limit new T' at
-      → Turned N v stood limit T T' at
-  -- some of the shortcuts that v calls for are too many already
-  too_many : {new : List Row} → ((x : Row) → Memᴰ x new → CalledFor N (table (front stood T)) v x) → Rising new → limit < at
-      → Appended T stood limit new T' at → Turned N v stood limit T T' at
+-- v's whole turn, over the first `stood` rows of T: all shortcuts that v calls for are written, and there are `at` rows then
+pub record TurnWritten (N : Network) (v stood limit : ℕ) (T T' : Columns) (at : ℕ) : Type 0 where
+  pub new : List Row
+  pub adds : Adds N (table (front_columns stood T)) v new
+  pub appends : Appends T stood limit new T' at
 
--- all turns
-pub data AllTurned (N : Network) (limit : ℕ) (T T' : Columns) (at : ℕ) : Type 0 where
-  fits : Prepared N (table (front at T')) → at ≤ limit → SameSize T T' → AllTurned N limit T T' at
-  exceeds : ((ss : List Row) → Prepared N ss → length ss ≤ limit → ⊥) → limit < at → SameSize T T' → AllTurned N limit T T' at
+-- some of the shortcuts that v calls for are too many already
+pub record TurnTooMany (N : Network) (v stood limit : ℕ) (T T' : Columns) : Type 0 where
+  pub new : List Row
+  pub called : (x : Row) → Memᴰ x new → CalledFor N (table (front_columns stood T)) v x
+  pub in_order : Rising new
+  pub overruns : Overruns T stood limit new T'
+
+abbrev pub Turned : Network → (v stood limit : ℕ) (T T' : Columns) → Option ℕ → Type 0
+Turned N v stood limit T T' (Some at) = TurnWritten N v stood limit T T' at
+Turned N v stood limit T T' None = TurnTooMany N v stood limit T T'
+
+-- all turns: the first `at` rows are the shortcuts of the network, or no such rows keep to the limit
+pub record AllWritten (N : Network) (limit : ℕ) (T T' : Columns) (at : ℕ) : Type 0 where
+  pub prepared : Prepared N (table (front_columns at T'))
+  pub within : at ≤ limit
+  pub same_size : SameSize T T'
+
+pub record AllTooMany (N : Network) (limit : ℕ) (T T' : Columns) : Type 0 where
+  pub none_fits : (ss : List Row) → Prepared N ss → length ss ≤ limit → ⊥
+  pub same_size : SameSize T T'
+
+abbrev pub AllTurned : Network → (limit : ℕ) (T T' : Columns) → Option ℕ → Type 0
+AllTurned N limit T T' (Some at) = AllWritten N limit T T' at
+AllTurned N limit T T' None = AllTooMany N limit T T'

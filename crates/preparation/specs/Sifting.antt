@@ -13,10 +13,6 @@ use Rattle.preparation.specs.Preparing.{out_at, mark_at, sum_at}
 abbrev pub cost_read : Network → Columns → ℕ → Weight
 cost_read N T r = cost (row_read N T r)
 
--- the weight whose time stands at i of the 64-bit room and whose edges stand at j of the 32-bit room
-abbrev pub weight_at : (wide narrow : List ℕ) (i j : ℕ) → Weight
-weight_at wide narrow i j = record { time = get_or wide i 0; edges = get_or narrow j 0 }
-
 -- w is marked
 abbrev pub IsMarked : (narrow : List ℕ) (n w : ℕ) → Type 0
 IsMarked narrow n w = get_or narrow (mark_at n w) 0 ≡ 1

@@ -1,327 +1,162 @@
 // Preparation: the shortcuts of a network, written to the lent rows.
-ghost use Rattle.std.specs.Prelude.{◌≡◌, ◌+◌, ◌<◌, ◌≤◌, length};
-ghost use Rattle.network.specs.Answers.{Checked};
-ghost use Rattle.network.specs.Network.{network, nodes, edges, Sound};
-ghost use Rattle.network.specs.Rows.{columns, Even, table};
+ghost use Rattle.std.specs.Prelude.{◌+◌, ◌<◌, ◌≤◌, length};
+ghost use Rattle.network.specs.Lent.{network_of, columns_of, room_columns, front_columns, SameRoom};
+ghost use Rattle.network.specs.Answers.{Ruled};
+ghost use Rattle.network.specs.Network.{nodes, edges, Sound};
+ghost use Rattle.network.specs.Rows.{Even, table};
 ghost use Rattle.search.specs.Orders.{Roomy};
 ghost use Rattle.preparation.specs.Answers.{prepare_order, PreparedInto};
-ghost use Rattle.preparation.specs.Preparing.{InTurn, Neighbours, SameRooms, TurnFrom, Turned, AllTurned, front, Most};
+ghost use Rattle.preparation.specs.Preparing.{InTurn, Neighbours, SameRooms, TurnFrom, Turned, AllTurned, Most};
 
+use crate::called::CalledFrom;
 use crate::lent::{write_from, zero_rows};
-use crate::neighbours::{NO_ROW, find_neighbours};
+use crate::neighbours::find_neighbours;
+use crate::slots::{into_slot, row_noted};
 use crate::testing::test_from;
 use crate::turns::next_turn;
+use columns::at;
 use columns::rooms::clear;
-use columns::{at8, at32};
 use network::answer::Answer;
-use network::check::check_network;
+use network::lent::{Network, ShortcutRoom, Shortcuts};
+use network::refusal::{Fault, Refusal};
 use network::table::even_rows;
+use search::room::check_room;
 
 // Edges and shortcuts together.
 const MOST_ROWS: usize = 4096;
 
-// The shortcuts from u in v's turn: the test reads the first `stood` rows, what is called for goes behind the first `at`.
+// The turn of a node: `stood` shortcuts stood before it, and there may be up to `limit` in all. What is known of the lent rows and rooms (`InTurn`, `Even`)
+// stays in the contracts: they are written to, and a field that refers to them would have to be kept true at each write.
+#[derive(Clone, Copy)]
+struct Turn<'a> {
+    network: Network<'a>,
+    node: usize,
+    stood: usize,
+    limit: usize,
+    ghost in_order: { (stood ≤ limit) × (limit ≤ 4096) },
+}
+
+// The shortcuts from u in a turn: the test reads the rows that stood, what is called for goes behind the first `made`. Answers how many there are
+// then, or None where they do not keep to the limit.
 #[tactic(auto, using(crate::proofs::Turning::skip_from))]
 fn contract_from(
-    node_modes: &[u8],
-    node_ranks: &[u16],
-    tails: &[u16],
-    heads: &[u16],
-    modes: &[u8],
-    lengths: &[u16],
-    shortcut_tails: &mut [u16],
-    shortcut_heads: &mut [u16],
-    shortcut_modes: &mut [u8],
-    shortcut_lengths: &mut [u32],
-    shortcut_counts: &mut [u16],
-    shortcut_firsts: &mut [u16],
-    shortcut_seconds: &mut [u16],
-    v: usize,
+    turn: &Turn,
+    shortcuts: &mut ShortcutRoom,
     u: usize,
-    stood: usize,
-    at: usize,
-    limit: usize,
+    made: usize,
     wide: &mut [u64],
     narrow: &mut [u32],
-) -> usize
-    requires in_turn { InTurn (network node_modes.now node_ranks.now tails.now heads.now modes.now lengths.now) (front stood (columns shortcut_tails.old shortcut_heads.old shortcut_modes.old shortcut_lengths.old shortcut_counts.old shortcut_firsts.old shortcut_seconds.old)) v (length wide.old) (length narrow.old) }
-    requires neighbours { Neighbours (network node_modes.now node_ranks.now tails.now heads.now modes.now lengths.now) (table (front stood (columns shortcut_tails.old shortcut_heads.old shortcut_modes.old shortcut_lengths.old shortcut_counts.old shortcut_firsts.old shortcut_seconds.old))) v narrow.old }
-    requires even { Even (columns shortcut_tails.old shortcut_heads.old shortcut_modes.old shortcut_lengths.old shortcut_counts.old shortcut_firsts.old shortcut_seconds.old) × (u < nodes (network node_modes.now node_ranks.now tails.now heads.now modes.now lengths.now)) × (stood ≤ at) × (at ≤ limit) × (limit ≤ 4096) × (limit ≤ length shortcut_tails.old) }
-    ensures { TurnFrom (network node_modes.now node_ranks.now tails.now heads.now modes.now lengths.now) (table (front stood (columns shortcut_tails.old shortcut_heads.old shortcut_modes.old shortcut_lengths.old shortcut_counts.old shortcut_firsts.old shortcut_seconds.old))) v u limit at (columns shortcut_tails.old shortcut_heads.old shortcut_modes.old shortcut_lengths.old shortcut_counts.old shortcut_firsts.old shortcut_seconds.old) (columns shortcut_tails.new shortcut_heads.new shortcut_modes.new shortcut_lengths.new shortcut_counts.new shortcut_firsts.new shortcut_seconds.new) wide.old narrow.old wide.new narrow.new result }
+) -> Option<usize>
+    requires in_turn { InTurn (network_of turn.now.network) (front_columns turn.now.stood (room_columns shortcuts.old)) turn.now.node (length wide.old) (length narrow.old) }
+    requires neighbours { Neighbours (network_of turn.now.network) (table (front_columns turn.now.stood (room_columns shortcuts.old))) turn.now.node narrow.old }
+    requires even { Even (room_columns shortcuts.old) × (u < nodes (network_of turn.now.network)) × (turn.now.stood ≤ made) × (made ≤ turn.now.limit) × (turn.now.limit ≤ length shortcuts.old.tails.now) }
+    ensures turn_from { TurnFrom (network_of turn.now.network) (table (front_columns turn.now.stood (room_columns shortcuts.old))) turn.now.node u turn.now.limit made (room_columns shortcuts.old) (room_columns shortcuts.new) wide.old narrow.old wide.new narrow.new result }
+    ensures same_room { SameRoom shortcuts.old shortcuts.new }
 {
-    let nodes = node_modes.len();
-    if at32(narrow, 2 * nodes + u) == NO_ROW {
-        return at;
+    let nodes = turn.network.node_modes.len();
+    if row_noted(narrow, into_slot(nodes, u)).is_none() {
+        return Some(made);
     }
-    test_from(
-        node_modes,
-        node_ranks,
-        tails,
-        heads,
-        modes,
-        lengths,
-        &shortcut_tails[0..stood],
-        &shortcut_heads[0..stood],
-        &shortcut_modes[0..stood],
-        &shortcut_lengths[0..stood],
-        &shortcut_counts[0..stood],
-        &shortcut_firsts[0..stood],
-        &shortcut_seconds[0..stood],
-        v,
-        u,
-        wide,
-        narrow,
-    );
-    write_from(
-        shortcut_tails,
-        shortcut_heads,
-        shortcut_modes,
-        shortcut_lengths,
-        shortcut_counts,
-        shortcut_firsts,
-        shortcut_seconds,
+    let stood = shortcuts.front(turn.stood);
+    test_from(&turn.network, &stood, turn.node, u, wide, narrow);
+    let called = CalledFrom {
         nodes,
-        at8(node_modes, v),
-        u,
-        at,
-        limit,
+        mode: at(turn.network.node_modes, turn.node),
+        from: u,
         wide,
         narrow,
-    )
+    };
+    write_from(shortcuts, &called, made, turn.limit)
 }
 
-// The shortcuts of v's turn, from one node after the other.
+// The shortcuts of a turn, from one node after the other.
 fn contract_each(
-    node_modes: &[u8],
-    node_ranks: &[u16],
-    tails: &[u16],
-    heads: &[u16],
-    modes: &[u8],
-    lengths: &[u16],
-    shortcut_tails: &mut [u16],
-    shortcut_heads: &mut [u16],
-    shortcut_modes: &mut [u8],
-    shortcut_lengths: &mut [u32],
-    shortcut_counts: &mut [u16],
-    shortcut_firsts: &mut [u16],
-    shortcut_seconds: &mut [u16],
-    v: usize,
-    stood: usize,
-    limit: usize,
+    turn: &Turn,
+    shortcuts: &mut ShortcutRoom,
     wide: &mut [u64],
     narrow: &mut [u32],
-) -> usize
-    requires in_turn { InTurn (network node_modes.now node_ranks.now tails.now heads.now modes.now lengths.now) (front stood (columns shortcut_tails.old shortcut_heads.old shortcut_modes.old shortcut_lengths.old shortcut_counts.old shortcut_firsts.old shortcut_seconds.old)) v (length wide.old) (length narrow.old) }
-    requires neighbours { Neighbours (network node_modes.now node_ranks.now tails.now heads.now modes.now lengths.now) (table (front stood (columns shortcut_tails.old shortcut_heads.old shortcut_modes.old shortcut_lengths.old shortcut_counts.old shortcut_firsts.old shortcut_seconds.old))) v narrow.old }
-    requires even { Even (columns shortcut_tails.old shortcut_heads.old shortcut_modes.old shortcut_lengths.old shortcut_counts.old shortcut_firsts.old shortcut_seconds.old) × (stood ≤ limit) × (limit ≤ 4096) × (limit ≤ length shortcut_tails.old) }
-    ensures turned { Turned (network node_modes.now node_ranks.now tails.now heads.now modes.now lengths.now) v stood limit (columns shortcut_tails.old shortcut_heads.old shortcut_modes.old shortcut_lengths.old shortcut_counts.old shortcut_firsts.old shortcut_seconds.old) (columns shortcut_tails.new shortcut_heads.new shortcut_modes.new shortcut_lengths.new shortcut_counts.new shortcut_firsts.new shortcut_seconds.new) result }
+) -> Option<usize>
+    requires in_turn { InTurn (network_of turn.now.network) (front_columns turn.now.stood (room_columns shortcuts.old)) turn.now.node (length wide.old) (length narrow.old) }
+    requires neighbours { Neighbours (network_of turn.now.network) (table (front_columns turn.now.stood (room_columns shortcuts.old))) turn.now.node narrow.old }
+    requires even { Even (room_columns shortcuts.old) × (turn.now.limit ≤ length shortcuts.old.tails.now) }
+    ensures turned { Turned (network_of turn.now.network) turn.now.node turn.now.stood turn.now.limit (room_columns shortcuts.old) (room_columns shortcuts.new) result }
     ensures same_rooms { SameRooms wide.old narrow.old wide.new narrow.new }
+    ensures same_room { SameRoom shortcuts.old shortcuts.new }
 {
-    let mut at = stood;
-    let mut u = 0;
-    while u < node_modes.len() {
-        at = contract_from(
-            node_modes,
-            node_ranks,
-            tails,
-            heads,
-            modes,
-            lengths,
-            shortcut_tails,
-            shortcut_heads,
-            shortcut_modes,
-            shortcut_lengths,
-            shortcut_counts,
-            shortcut_firsts,
-            shortcut_seconds,
-            v,
-            u,
-            stood,
-            at,
-            limit,
-            wide,
-            narrow,
-        );
-        if limit < at {
-            return at;
-        }
-        u += 1;
+    let mut made = turn.stood;
+    for u in 0..turn.network.node_modes.len() {
+        made = contract_from(turn, shortcuts, u, made, wide, narrow)?;
     }
-    at
+    Some(made)
 }
 
-// v's turn. Answers how many shortcuts there are then, or a number above the limit where they do not fit.
+// A turn. Answers how many shortcuts there are then, or None where they do not keep to the limit.
 fn contract(
-    node_modes: &[u8],
-    node_ranks: &[u16],
-    tails: &[u16],
-    heads: &[u16],
-    modes: &[u8],
-    lengths: &[u16],
-    shortcut_tails: &mut [u16],
-    shortcut_heads: &mut [u16],
-    shortcut_modes: &mut [u8],
-    shortcut_lengths: &mut [u32],
-    shortcut_counts: &mut [u16],
-    shortcut_firsts: &mut [u16],
-    shortcut_seconds: &mut [u16],
-    v: usize,
-    stood: usize,
-    limit: usize,
+    turn: &Turn,
+    shortcuts: &mut ShortcutRoom,
     wide: &mut [u64],
     narrow: &mut [u32],
-) -> usize
-    requires in_turn { InTurn (network node_modes.now node_ranks.now tails.now heads.now modes.now lengths.now) (front stood (columns shortcut_tails.old shortcut_heads.old shortcut_modes.old shortcut_lengths.old shortcut_counts.old shortcut_firsts.old shortcut_seconds.old)) v (length wide.old) (length narrow.old) }
-    requires even { Even (columns shortcut_tails.old shortcut_heads.old shortcut_modes.old shortcut_lengths.old shortcut_counts.old shortcut_firsts.old shortcut_seconds.old) × (stood ≤ limit) × (limit ≤ 4096) × (limit ≤ length shortcut_tails.old) }
-    ensures turned { Turned (network node_modes.now node_ranks.now tails.now heads.now modes.now lengths.now) v stood limit (columns shortcut_tails.old shortcut_heads.old shortcut_modes.old shortcut_lengths.old shortcut_counts.old shortcut_firsts.old shortcut_seconds.old) (columns shortcut_tails.new shortcut_heads.new shortcut_modes.new shortcut_lengths.new shortcut_counts.new shortcut_firsts.new shortcut_seconds.new) result }
+) -> Option<usize>
+    requires in_turn { InTurn (network_of turn.now.network) (front_columns turn.now.stood (room_columns shortcuts.old)) turn.now.node (length wide.old) (length narrow.old) }
+    requires even { Even (room_columns shortcuts.old) × (turn.now.limit ≤ length shortcuts.old.tails.now) }
+    ensures turned { Turned (network_of turn.now.network) turn.now.node turn.now.stood turn.now.limit (room_columns shortcuts.old) (room_columns shortcuts.new) result }
     ensures same_rooms { SameRooms wide.old narrow.old wide.new narrow.new }
+    ensures same_room { SameRoom shortcuts.old shortcuts.new }
 {
     find_neighbours(
-        node_modes,
-        node_ranks,
-        tails,
-        heads,
-        modes,
-        lengths,
-        &shortcut_tails[0..stood],
-        &shortcut_heads[0..stood],
-        &shortcut_modes[0..stood],
-        &shortcut_lengths[0..stood],
-        &shortcut_counts[0..stood],
-        &shortcut_firsts[0..stood],
-        &shortcut_seconds[0..stood],
-        v,
-        wide,
+        &turn.network,
+        &shortcuts.front(turn.stood),
+        turn.node,
         narrow,
     );
-    contract_each(
-        node_modes,
-        node_ranks,
-        tails,
-        heads,
-        modes,
-        lengths,
-        shortcut_tails,
-        shortcut_heads,
-        shortcut_modes,
-        shortcut_lengths,
-        shortcut_counts,
-        shortcut_firsts,
-        shortcut_seconds,
-        v,
-        stood,
-        limit,
-        wide,
-        narrow,
-    )
+    contract_each(turn, shortcuts, wide, narrow)
 }
 
-// All turns, one after the other; there are no more than nodes. Answers how many shortcuts there are, or a number above the limit where they do not
-// fit.
+// All turns, one after the other; there are no more than nodes. Answers how many shortcuts there are, or None where they do not keep to the limit.
 fn contract_all(
-    node_modes: &[u8],
-    node_ranks: &[u16],
-    tails: &[u16],
-    heads: &[u16],
-    modes: &[u8],
-    lengths: &[u16],
-    shortcut_tails: &mut [u16],
-    shortcut_heads: &mut [u16],
-    shortcut_modes: &mut [u8],
-    shortcut_lengths: &mut [u32],
-    shortcut_counts: &mut [u16],
-    shortcut_firsts: &mut [u16],
-    shortcut_seconds: &mut [u16],
+    network: &Network,
+    shortcuts: &mut ShortcutRoom,
     limit: usize,
     wide: &mut [u64],
     narrow: &mut [u32],
-) -> usize
-    requires sound { Sound (network node_modes.now node_ranks.now tails.now heads.now modes.now lengths.now) × Roomy (network node_modes.now node_ranks.now tails.now heads.now modes.now lengths.now) (length wide.old) (length narrow.old) }
-    requires even { Even (columns shortcut_tails.old shortcut_heads.old shortcut_modes.old shortcut_lengths.old shortcut_counts.old shortcut_firsts.old shortcut_seconds.old) × (edges (network node_modes.now node_ranks.now tails.now heads.now modes.now lengths.now) + limit ≤ 4096) × (limit ≤ length shortcut_tails.old) }
-    ensures all_turned { AllTurned (network node_modes.now node_ranks.now tails.now heads.now modes.now lengths.now) limit (columns shortcut_tails.old shortcut_heads.old shortcut_modes.old shortcut_lengths.old shortcut_counts.old shortcut_firsts.old shortcut_seconds.old) (columns shortcut_tails.new shortcut_heads.new shortcut_modes.new shortcut_lengths.new shortcut_counts.new shortcut_firsts.new shortcut_seconds.new) result }
+) -> Option<usize>
+    requires sound { Sound (network_of network.now) × Roomy (network_of network.now) (length wide.old) (length narrow.old) }
+    requires even { Even (room_columns shortcuts.old) × (edges (network_of network.now) + limit ≤ 4096) × (limit ≤ length shortcuts.old.tails.now) }
+    ensures all_turned { AllTurned (network_of network.now) limit (room_columns shortcuts.old) (room_columns shortcuts.new) result }
     ensures same_rooms { SameRooms wide.old narrow.old wide.new narrow.new }
+    ensures same_room { SameRoom shortcuts.old shortcuts.new }
 {
-    let mut at = 0;
-    let mut begun = false;
-    let mut last = 0;
-    let mut turns = 0;
-    while turns < node_modes.len() {
-        let v = next_turn(node_ranks, begun, last);
-        if node_modes.len() <= v {
-            return at;
-        }
-        at = contract(
-            node_modes,
-            node_ranks,
-            tails,
-            heads,
-            modes,
-            lengths,
-            shortcut_tails,
-            shortcut_heads,
-            shortcut_modes,
-            shortcut_lengths,
-            shortcut_counts,
-            shortcut_firsts,
-            shortcut_seconds,
-            v,
-            at,
+    let mut made = 0;
+    let mut last = None;
+    for turns in 0..network.node_modes.len() {
+        let Some(v) = next_turn(network.node_ranks, last) else {
+            return Some(made);
+        };
+        let turn = Turn {
+            network: *network,
+            node: v,
+            stood: made,
             limit,
-            wide,
-            narrow,
-        );
-        if limit < at {
-            return at;
-        }
-        begun = true;
-        last = v;
-        turns += 1;
+        };
+        made = contract(&turn, shortcuts, wide, narrow)?;
+        last = Some(v);
     }
-    at
+    Some(made)
 }
 
-// The first rule that is broken: 1, 11, 2, 3, 4; number 0 where all are kept. `wides` and `narrows` tell how long the work rooms are.
-fn refusal(
-    node_modes: &[u8],
-    node_ranks: &[u16],
-    tails: &[u16],
-    heads: &[u16],
-    modes: &[u8],
-    lengths: &[u16],
-    shortcut_tails: &[u16],
-    shortcut_heads: &[u16],
-    shortcut_modes: &[u8],
-    shortcut_lengths: &[u32],
-    shortcut_counts: &[u16],
-    shortcut_firsts: &[u16],
-    shortcut_seconds: &[u16],
+// Whether 1, 11, 2, 3, 4 are all kept, or the first that is not. `wides` and `narrows` tell how long the work rooms are.
+fn admit(
+    network: &Network,
+    shortcuts: &Shortcuts,
     wides: usize,
     narrows: usize,
-) -> Answer
-    ensures { Checked (prepare_order (network node_modes.now node_ranks.now tails.now heads.now modes.now lengths.now) (columns shortcut_tails.now shortcut_heads.now shortcut_modes.now shortcut_lengths.now shortcut_counts.now shortcut_firsts.now shortcut_seconds.now) wides narrows) result }
+) -> Result<(), Refusal>
+    ensures { Ruled (prepare_order (network_of network.now) (columns_of shortcuts.now) wides narrows) result }
 {
-    let by_network = check_network(node_modes, node_ranks, tails, heads, modes, lengths);
-    if by_network.number == Answer::SIZES {
-        return by_network;
+    if !even_rows(shortcuts) {
+        return Err(Fault::Sizes.at(0));
     }
-    if even_rows(
-        shortcut_tails,
-        shortcut_heads,
-        shortcut_modes,
-        shortcut_lengths,
-        shortcut_counts,
-        shortcut_firsts,
-        shortcut_seconds,
-    ) {
-        if wides < 16 * node_modes.len() {
-            return Answer::show(Answer::WORK_ROOM, 0);
-        }
-        if narrows < 32 * node_modes.len() {
-            return Answer::show(Answer::WORK_ROOM, 0);
-        }
-        return by_network;
-    }
-    Answer::show(Answer::SIZES, 0)
+    check_room(network, wides, narrows)
 }
 
 // How many shortcuts there may be with so many edges in so many lent rows.
@@ -329,100 +164,34 @@ fn most_shortcuts(edges: usize, lent: usize) -> usize
     requires { edges ≤ 2048 }
     ensures { Most edges lent result }
 {
-    let left = MOST_ROWS - edges;
-    if lent < left {
-        return lent;
-    }
-    left
+    lent.min(MOST_ROWS - edges)
 }
 
 // Writes the shortcuts of the network to the lent rows, and zeroes the rows behind them.
 pub fn prepare(
-    node_modes: &[u8],
-    node_ranks: &[u16],
-    tails: &[u16],
-    heads: &[u16],
-    modes: &[u8],
-    lengths: &[u16],
-    shortcut_tails: &mut [u16],
-    shortcut_heads: &mut [u16],
-    shortcut_modes: &mut [u8],
-    shortcut_lengths: &mut [u32],
-    shortcut_counts: &mut [u16],
-    shortcut_firsts: &mut [u16],
-    shortcut_seconds: &mut [u16],
+    network: &Network,
+    shortcuts: &mut ShortcutRoom,
     wide: &mut [u64],
     narrow: &mut [u32],
 ) -> Answer
-    ensures { PreparedInto (network node_modes.now node_ranks.now tails.now heads.now modes.now lengths.now) (columns shortcut_tails.old shortcut_heads.old shortcut_modes.old shortcut_lengths.old shortcut_counts.old shortcut_firsts.old shortcut_seconds.old) (columns shortcut_tails.new shortcut_heads.new shortcut_modes.new shortcut_lengths.new shortcut_counts.new shortcut_firsts.new shortcut_seconds.new) wide.old wide.new narrow.old narrow.new result }
+    ensures prepared { PreparedInto (network_of network.now) (room_columns shortcuts.old) (room_columns shortcuts.new) wide.old wide.new narrow.old narrow.new result }
+    ensures same_room { SameRoom shortcuts.old shortcuts.new }
 {
-    let refused = refusal(
-        node_modes,
-        node_ranks,
-        tails,
-        heads,
-        modes,
-        lengths,
-        shortcut_tails,
-        shortcut_heads,
-        shortcut_modes,
-        shortcut_lengths,
-        shortcut_counts,
-        shortcut_firsts,
-        shortcut_seconds,
-        wide.len(),
-        narrow.len(),
-    );
-    if refused.number != Answer::ANSWERED {
-        return refused;
+    if let Err(refusal) = admit(network, &shortcuts.read(), wide.len(), narrow.len()) {
+        return refusal.into();
     }
-    let limit = most_shortcuts(tails.len(), shortcut_tails.len());
-    let made = contract_all(
-        node_modes,
-        node_ranks,
-        tails,
-        heads,
-        modes,
-        lengths,
-        shortcut_tails,
-        shortcut_heads,
-        shortcut_modes,
-        shortcut_lengths,
-        shortcut_counts,
-        shortcut_firsts,
-        shortcut_seconds,
-        limit,
-        wide,
-        narrow,
-    );
+    let limit = most_shortcuts(network.tails.len(), shortcuts.tails.len());
+    let made = contract_all(network, shortcuts, limit, wide, narrow);
     clear(wide, narrow);
-    if limit < made {
-        zero_rows(
-            shortcut_tails,
-            shortcut_heads,
-            shortcut_modes,
-            shortcut_lengths,
-            shortcut_counts,
-            shortcut_firsts,
-            shortcut_seconds,
-            0,
-        );
-        return Answer::show(Answer::SHORTCUT_ROOM, 0);
-    }
-    zero_rows(
-        shortcut_tails,
-        shortcut_heads,
-        shortcut_modes,
-        shortcut_lengths,
-        shortcut_counts,
-        shortcut_firsts,
-        shortcut_seconds,
-        made,
-    );
+    let Some(made) = made else {
+        zero_rows(shortcuts, 0);
+        return Fault::ShortcutSpace.at(0).into();
+    };
+    zero_rows(shortcuts, made);
     Answer {
         number: Answer::ANSWERED,
         place: 0,
         time: 0,
-        count: (made % 65536) as u32,
+        count: made as u32,
     }
 }

@@ -3,46 +3,32 @@ ghost use Rattle.network.specs.Answers.{Decides};
 ghost use Rattle.preparation.specs.Choosing.{Sooner};
 ghost use Rattle.preparation.specs.Preparing.{Due, NextTurn};
 
-use columns::at16;
+use columns::at;
 use network::order::{CORE, contracted_before};
 
 // Whether the node x is still to be contracted when `last` was contracted last; where no turn has been, whether it is contracted at all.
-fn due(node_ranks: &[u16], begun: bool, last: usize, x: usize) -> bool
-    ensures { Decides result (Due node_ranks.now begun last x) }
+fn due(node_ranks: &[u16], last: Option<usize>, x: usize) -> bool
+    ensures { Decides result (Due node_ranks.now last x) }
 {
-    if at16(node_ranks, x) == CORE {
-        return false;
-    }
-    if begun {
-        return contracted_before(node_ranks, last, x);
-    }
-    true
+    at(node_ranks, x) != CORE && last.is_none_or(|last| contracted_before(node_ranks, last, x))
 }
 
-// Of `first`, which may be no node, and x: the one whose turn comes sooner.
-fn sooner(node_ranks: &[u16], begun: bool, last: usize, first: usize, x: usize) -> usize
-    ensures { Sooner node_ranks.now begun last first x result }
+// Whether the node x is due, and its turn comes before that of `first`, where there is one.
+fn sooner(node_ranks: &[u16], last: Option<usize>, first: Option<usize>, x: usize) -> bool
+    ensures { Decides result (Sooner node_ranks.now last first x) }
 {
-    if due(node_ranks, begun, last, x) {
-        if node_ranks.len() <= first {
-            return x;
-        }
-        if contracted_before(node_ranks, x, first) {
-            return x;
-        }
-    }
-    first
+    due(node_ranks, last, x) && first.is_none_or(|first| contracted_before(node_ranks, x, first))
 }
 
-// The node whose turn comes behind the turn of `last`, or the number of nodes where none is left.
-pub(crate) fn next_turn(node_ranks: &[u16], begun: bool, last: usize) -> usize
-    ensures { NextTurn node_ranks.now begun last result }
+// The node whose turn comes behind the turn of `last`, where one is left.
+pub(crate) fn next_turn(node_ranks: &[u16], last: Option<usize>) -> Option<usize>
+    ensures { NextTurn node_ranks.now last result }
 {
-    let mut first = node_ranks.len();
-    let mut x = 0;
-    while x < node_ranks.len() {
-        first = sooner(node_ranks, begun, last, first, x);
-        x += 1;
+    let mut first = None;
+    for x in 0..node_ranks.len() {
+        if sooner(node_ranks, last, first, x) {
+            first = Some(x);
+        }
     }
     first
 }

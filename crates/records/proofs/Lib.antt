@@ -1,1 +1,3 @@
--- The promises of this crate are equations and a test: what they allow is one result only by the laws of the crates below.
+-- The promises of this crate are equations, tests and a kind by its byte: what they allow is one result only by these laws and those of the
+-- crates below.
+pub mod KindLaws

@@ -1,13 +1,31 @@
--- The reader of a card stream: how far it has come, and what it holds of the record at hand. Its stages: 0 the head is due, 1 nodes, 2 edges, 3 a
--- sheet, 4 states, 5 anything that may follow a sheet; 6 the stream has ended, 7 it was refused and is over.
-use Rattle.std.specs.Prelude.{◌≡◌, Bool, true, false, cond, ℕ, ◌+◌, ◌*◌, ◌%◌, eqb, get_or, set, replicate}
-use Rattle.network.specs.Sheet.{no_state}
+-- The reader of a card stream: how far it has come, what it holds of the record at hand, and how it goes on.
+use Rattle.std.specs.Prelude.{◌≡◌, Bool, true, false, ℕ, ◌+◌, ◌*◌, ◌%◌, ◌<◌, cond, eqb, Result, MatchResult, get_or, set, replicate}
+use Rattle.network.specs.Sheet.{sheet_of, no_state}
+use Rattle.records.specs.declared.reader.Kind.{Kind}
+use Rattle.records.specs.declared.reader.Kind.TheVariants as kind
+use Rattle.records.specs.declared.reader.UnknownKind.{UnknownKind}
+use Rattle.records.specs.declared.reader.Stage.{Stage}
+use Rattle.records.specs.declared.reader.Stage.TheVariants.{HeadDue, NodesDue, EdgesDue, SheetDue, StatesDue, Asking, Ended, Over, Astray}
 use Rattle.records.specs.declared.reader.Reader.{Reader}
+
+-- "One byte of kind": the byte of each
+abbrev pub code_of : Kind → ℕ
+code_of kind.End = 0
+code_of kind.Head = 1
+code_of kind.Node = 2
+code_of kind.Edge = 3
+code_of kind.State = 4
+code_of kind.Question = 5
+code_of kind.Sheet = 6
+
+-- the kind with this byte, or an error with a byte that no kind has
+abbrev pub Decodes : ℕ → Result Kind UnknownKind → Type 0
+Decodes byte r = MatchResult r (λ k. code_of k ≡ byte) (λ e. (e.0 ≡ byte) × (6 < byte))
 
 -- before the first byte
 abbrev pub begun : Reader
 begun = record {
-  stage = 0;
+  stage = HeadDue;
   offset = 0;
   held = 0;
   bytes = replicate 8 0;
@@ -15,45 +33,20 @@ begun = record {
   edges = 0;
   entered = 0;
   shortcuts = 0;
-  sheet = replicate 8 no_state;
-  states = 0;
+  sheet = sheet_of (replicate 8 no_state) 0;
   written = 0;
 }
 
 -- with a byte more of the record at hand; no record has more than eight
 abbrev pub holding : Reader → ℕ → Reader
-holding r byte = record {
-  stage = r.stage;
-  offset = r.offset;
-  held = r.held % 8 + 1;
-  bytes = set r.bytes (r.held % 8) byte;
-  nodes = r.nodes;
-  edges = r.edges;
-  entered = r.entered;
-  shortcuts = r.shortcuts;
-  sheet = r.sheet;
-  states = r.states;
-  written = 0;
-}
+holding r byte = record r { held = r.held % 8 + 1; bytes = set r.bytes (r.held % 8) byte; written = 0 }
 
 -- The record at hand is done with, and the next begins behind it. No stream is so long that the remainder matters.
 abbrev pub behind : Reader → ℕ
 behind r = r.offset % 4611686018427387904 + r.held % 16
 
-abbrev pub done : Reader → (stage written : ℕ) → Reader
-done r stage written = record {
-  stage = stage;
-  offset = behind r;
-  held = 0;
-  bytes = r.bytes;
-  nodes = r.nodes;
-  edges = r.edges;
-  entered = r.entered;
-  shortcuts = r.shortcuts;
-  sheet = r.sheet;
-  states = r.states;
-  written = written;
-}
+abbrev pub done : Reader → Stage → (written : ℕ) → Reader
+done r stage written = record r { stage = stage; offset = behind r; held = 0; written = written }
 
 -- the record's bytes
 abbrev pub byte_at : Reader → ℕ → ℕ
@@ -63,26 +56,42 @@ abbrev pub word : (high low : ℕ) → ℕ
 word high low = 256 * high + low
 
 -- whether a record of this kind may come in this stage
-unfoldable pub awaits : (stage kind : ℕ) → Bool
-awaits stage kind =
-    cond (eqb stage 0) (eqb kind 1)
-    (cond (eqb stage 1) (eqb kind 2)
-    (cond (eqb stage 2) (eqb kind 3)
-    (cond (eqb stage 3) (cond (eqb kind 6) true (eqb kind 0))
-    (cond (eqb stage 4) (eqb kind 4)
-    (cond (eqb stage 5) (cond (eqb kind 6) true (cond (eqb kind 5) true (eqb kind 0))) false)))))
+abbrev pub awaits : Stage → Kind → Bool
+awaits HeadDue kind.Head = true
+awaits NodesDue kind.Node = true
+awaits EdgesDue kind.Edge = true
+awaits SheetDue kind.Sheet = true
+awaits SheetDue kind.End = true
+awaits StatesDue kind.State = true
+awaits Asking kind.Sheet = true
+awaits Asking kind.Question = true
+awaits Asking kind.End = true
+awaits _ _ = false
 
--- the byte begins a record that may not come
+-- the byte begins a record that may not come, or none at all
 pub record Misplaced (r : Reader) (byte : ℕ) : Type 0 where
   pub first : r.held ≡ 0
-  pub not_due : awaits r.stage byte ≡ false
+  pub not_due : (k : Kind) → code_of k ≡ byte → awaits r.stage k ≡ false
 
 -- how many bytes a record of this kind has
-unfoldable pub size : ℕ → ℕ
-size kind =
-    cond (eqb kind 1) 5
-    (cond (eqb kind 2) 4
-    (cond (eqb kind 3) 8
-    (cond (eqb kind 4) 4
-    (cond (eqb kind 5) 5
-    (cond (eqb kind 6) 2 1)))))
+abbrev pub size_of : Kind → ℕ
+size_of kind.End = 1
+size_of kind.Head = 5
+size_of kind.Node = 4
+size_of kind.Edge = 8
+size_of kind.State = 4
+size_of kind.Question = 5
+size_of kind.Sheet = 2
+
+-- by its first byte; a byte that no kind has stands alone
+abbrev pub size : ℕ → ℕ
+size byte =
+    cond (eqb byte 1) 5 (cond (eqb byte 2) 4 (cond (eqb byte 3) 8 (cond (eqb byte 4) 4 (cond (eqb byte 5) 5 (cond (eqb byte 6) 2 1)))))
+
+-- a stage by its number
+abbrev pub stage_numbered : ℕ → Stage
+stage_numbered number = cond (eqb number 0) HeadDue
+    (cond (eqb number 1) NodesDue
+    (cond (eqb number 2) EdgesDue
+    (cond (eqb number 3) SheetDue
+    (cond (eqb number 4) StatesDue (cond (eqb number 5) Asking (cond (eqb number 6) Ended (cond (eqb number 7) Over Astray)))))))

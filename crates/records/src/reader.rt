@@ -1,16 +1,134 @@
 // The reader of a card stream: how far it has come, and what it holds of the record at hand.
 ghost use Rattle.std.specs.Prelude.{◌≡◌};
 ghost use Rattle.network.specs.Answers.{Decides};
-ghost use Rattle.records.specs.Reader.{begun, holding, done, word, awaits, size, Misplaced};
+ghost use Rattle.records.specs.Reader.{Decodes, begun, holding, done, word, awaits, size, size_of, stage_numbered, Misplaced};
 
-use network::sheet::State;
+use network::sheet::{Sheet, State};
+
+// The kinds of record, each by the byte that it begins with.
+#[derive(Clone, Copy, Debug, PartialEq, Eq)]
+pub enum Kind {
+    // The end of the stream.
+    End = 0,
+    // How many nodes and edges there are.
+    Head = 1,
+    // A node's mode and rank.
+    Node = 2,
+    // An edge's tail, head, mode and length.
+    Edge = 3,
+    // A state's modes, next and ends.
+    State = 4,
+    // From where to where.
+    Question = 5,
+    // How many states a sheet has.
+    Sheet = 6,
+}
+
+// A byte that begins no kind of record.
+#[derive(Clone, Copy, Debug, PartialEq, Eq)]
+pub struct UnknownKind(pub u8);
+
+impl TryFrom<u8> for Kind {
+    type Error = UnknownKind;
+
+    ghost try_from_gives = { Decodes };
+
+    fn try_from(byte: u8) -> Result<Self, UnknownKind> {
+        match byte {
+            0 => Ok(Kind::End),
+            1 => Ok(Kind::Head),
+            2 => Ok(Kind::Node),
+            3 => Ok(Kind::Edge),
+            4 => Ok(Kind::State),
+            5 => Ok(Kind::Question),
+            6 => Ok(Kind::Sheet),
+            _ => Err(UnknownKind(byte)),
+        }
+    }
+}
+
+impl Kind {
+    // How many bytes a record of this kind has.
+    pub fn size(self) -> usize
+        ensures { result ≡ size_of self }
+    {
+        match self {
+            Kind::End => 1,
+            Kind::Head => 5,
+            Kind::Node => 4,
+            Kind::Edge => 8,
+            Kind::State => 4,
+            Kind::Question => 5,
+            Kind::Sheet => 2,
+        }
+    }
+}
+
+// How far a stream has come.
+#[derive(Clone, Copy, Debug, PartialEq, Eq)]
+pub enum Stage {
+    // The head is due.
+    HeadDue,
+    // A node is due.
+    NodesDue,
+    // An edge is due.
+    EdgesDue,
+    // The network is prepared, and there is no sheet yet.
+    SheetDue,
+    // A state of the sheet is due.
+    StatesDue,
+    // There is a sheet: questions may come.
+    Asking,
+    // The end record is in: nothing may come.
+    Ended,
+    // The stream was refused: nothing more is read.
+    Over,
+    // None of these, where no stream comes: nothing may come, and its end is refused.
+    Astray,
+}
+
+// A stage by its number, of which every number has one.
+impl From<u8> for Stage {
+    ghost from_gives = { λ number stage. stage ≡ stage_numbered number };
+
+    fn from(number: u8) -> Stage {
+        match number {
+            0 => Stage::HeadDue,
+            1 => Stage::NodesDue,
+            2 => Stage::EdgesDue,
+            3 => Stage::SheetDue,
+            4 => Stage::StatesDue,
+            5 => Stage::Asking,
+            6 => Stage::Ended,
+            7 => Stage::Over,
+            _ => Stage::Astray,
+        }
+    }
+}
+
+impl Stage {
+    // Whether a record of this kind may come.
+    fn awaits(self, kind: Kind) -> bool
+        ensures { result ≡ awaits self kind }
+    {
+        match self {
+            Stage::HeadDue => kind == Kind::Head,
+            Stage::NodesDue => kind == Kind::Node,
+            Stage::EdgesDue => kind == Kind::Edge,
+            Stage::SheetDue => matches!(kind, Kind::Sheet | Kind::End),
+            Stage::StatesDue => kind == Kind::State,
+            Stage::Asking => matches!(kind, Kind::Sheet | Kind::Question | Kind::End),
+            Stage::Ended | Stage::Over | Stage::Astray => false,
+        }
+    }
+}
 
 #[derive(Clone, Copy)]
 pub struct Reader {
-    pub stage: u8,
+    pub stage: Stage,
     // Of the first byte of the record at hand.
     pub offset: usize,
-    // How many of its bytes are there.
+    // How many of its bytes are there, and the bytes: in fixed memory, since no record has more than eight.
     pub held: usize,
     pub bytes: [u8; 8],
     // What the head announced.
@@ -19,45 +137,10 @@ pub struct Reader {
     // How many nodes, edges or states are in, whichever are due.
     pub entered: usize,
     pub shortcuts: usize,
-    pub sheet: [State; 8],
-    pub states: u8,
+    pub sheet: Sheet,
     // How long the line is that stands in front of the line room.
     pub written: usize,
 }
-
-impl Reader {
-    // The head is due.
-    pub const HEAD_DUE: u8 = 0;
-    // A node is due.
-    pub const NODES_DUE: u8 = 1;
-    // An edge is due.
-    pub const EDGES_DUE: u8 = 2;
-    // The network is prepared, and there is no sheet yet.
-    pub const SHEET_DUE: u8 = 3;
-    // A state of the sheet is due.
-    pub const STATES_DUE: u8 = 4;
-    // There is a sheet: questions may come.
-    pub const ASKING: u8 = 5;
-    // The end record is in: nothing may come.
-    pub const ENDED: u8 = 6;
-    // The stream was refused: nothing more is read.
-    pub const OVER: u8 = 7;
-}
-
-// The kinds of record: the end of the stream,
-pub const END: u8 = 0;
-// how many nodes and edges there are,
-pub const HEAD: u8 = 1;
-// a node's mode and rank,
-pub const NODE: u8 = 2;
-// an edge's tail, head, mode and length,
-pub const EDGE: u8 = 3;
-// a state's modes, next and ends,
-pub const STATE: u8 = 4;
-// from where to where,
-pub const QUESTION: u8 = 5;
-// and how many states a sheet has.
-pub const SHEET: u8 = 6;
 
 // No stream is longer.
 const LONGEST: usize = 4611686018427387904;
@@ -66,13 +149,8 @@ const LONGEST: usize = 4611686018427387904;
 pub fn begin() -> Reader
     ensures { result ≡ begun }
 {
-    let blank = State {
-        modes: 0,
-        next: 0,
-        ends: 0,
-    };
     Reader {
-        stage: Reader::HEAD_DUE,
+        stage: Stage::HeadDue,
         offset: 0,
         held: 0,
         bytes: [0; 8],
@@ -80,8 +158,10 @@ pub fn begin() -> Reader
         edges: 0,
         entered: 0,
         shortcuts: 0,
-        sheet: [blank; 8],
-        states: 0,
+        sheet: Sheet {
+            entries: [State::ABSENT; 8],
+            states: 0,
+        },
         written: 0,
     }
 }
@@ -91,17 +171,15 @@ pub fn hold(reader: Reader, byte: u8) -> Reader
     ensures { result ≡ holding reader byte }
 {
     let at = reader.held % 8;
-    let mut bytes = reader.bytes;
-    bytes[at] = byte;
     let mut next = reader;
-    next.bytes = bytes;
+    next.bytes[at] = byte;
     next.held = at + 1;
     next.written = 0;
     next
 }
 
 // The record at hand is done with, and the next begins behind it.
-pub fn finish_record(reader: Reader, stage: u8, written: usize) -> Reader
+pub fn finish_record(reader: Reader, stage: Stage, written: usize) -> Reader
     ensures { result ≡ done reader stage written }
 {
     let mut next = reader;
@@ -116,77 +194,19 @@ pub fn finish_record(reader: Reader, stage: u8, written: usize) -> Reader
 pub fn word_of(high: u8, low: u8) -> u16
     ensures { result ≡ word high low }
 {
-    256 * high as u16 + low as u16
-}
-
-// Whether a record of this kind may come in this stage.
-fn awaited(stage: u8, kind: u8) -> bool
-    ensures { result ≡ awaits stage kind }
-{
-    if stage == Reader::HEAD_DUE {
-        return kind == HEAD;
-    }
-    if stage == Reader::NODES_DUE {
-        return kind == NODE;
-    }
-    if stage == Reader::EDGES_DUE {
-        return kind == EDGE;
-    }
-    if stage == Reader::SHEET_DUE {
-        if kind == SHEET {
-            return true;
-        }
-        return kind == END;
-    }
-    if stage == Reader::STATES_DUE {
-        return kind == STATE;
-    }
-    if stage == Reader::ASKING {
-        if kind == SHEET {
-            return true;
-        }
-        if kind == QUESTION {
-            return true;
-        }
-        return kind == END;
-    }
-    false
+    u16::from_be_bytes([high, low])
 }
 
 // Whether the byte begins a record that may not come.
 pub fn misplaced(reader: Reader, byte: u8) -> bool
     ensures { Decides result (Misplaced reader byte) }
 {
-    if reader.held != 0 {
-        return false;
-    }
-    if awaited(reader.stage, byte) {
-        return false;
-    }
-    true
+    reader.held == 0 && !Kind::try_from(byte).is_ok_and(|kind| reader.stage.awaits(kind))
 }
 
-// How many bytes a record of this kind has.
-pub fn record_size(kind: u8) -> usize
-    ensures { result ≡ size kind }
+// How many bytes a record has that begins with this byte; 1 where none does.
+pub fn record_size(byte: u8) -> usize
+    ensures { result ≡ size byte }
 {
-    if kind == HEAD {
-        return 5;
-    }
-    if kind == NODE {
-        return 4;
-    }
-    if kind == EDGE {
-        return 8;
-    }
-    if kind == STATE {
-        return 4;
-    }
-    if kind == QUESTION {
-        return 5;
-    }
-    if kind == SHEET {
-        return 2;
-    }
-    1
+    Kind::try_from(byte).map_or(1, Kind::size)
 }

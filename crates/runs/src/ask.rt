@@ -1,94 +1,117 @@
-// One question to one search, and the line about it. The lent rooms come filled.
-use crate::show::{answer, text};
+// A case's question to each search, and the line about it.
+ghost use Rattle.std.specs.Prelude.{◌+◌, ◌<◌, ◌^◌};
+
+use crate::rooms::Rooms;
+use crate::show::answered;
 use network::answer::Answer;
-use network::sheet::State;
+use network::lent::{Network, Shortcuts};
+use network::sheet::Sheet;
 use search::plain::search_plain;
 use search::rows::search_rows;
 use std::io::Print;
 
+// A question, under its case's name.
+#[derive(Clone, Copy)]
+pub struct Case<'a> {
+    pub name: &'a str,
+    pub sheet: Sheet,
+    pub from: u16,
+    pub to: u16,
+}
+
+impl<'a> Case<'a> {
+    pub fn new(name: &'a str, sheet: Sheet, from: u16, to: u16) -> Case<'a> {
+        Case {
+            name,
+            sheet,
+            from,
+            to,
+        }
+    }
+}
+
 // The plain search tells no number of legs: it wrote as many as it counts, and none with a refusal.
-fn legs_written(a: Answer) -> usize {
-    if a.number == Answer::ANSWERED {
-        return a.count as usize;
+fn legs_written(answer: Answer) -> usize {
+    if answer.number == Answer::ANSWERED {
+        return answer.count as usize;
     }
     0
 }
 
-pub fn plain(
-    stdout: &impl Print,
-    name: &[u8],
-    node_modes: &[u8],
-    node_ranks: &[u16],
-    tails: &[u16],
-    heads: &[u16],
-    modes: &[u8],
-    lengths: &[u16],
-    sheet: [State; 8],
-    states: u8,
-    from: u16,
-    to: u16,
-    journey: &mut [u16],
-    wide: &mut [u64],
-    narrow: &mut [u32],
-) {
-    let a = search_plain(
-        node_modes, node_ranks, tails, heads, modes, lengths, sheet, states, from, to, journey,
-        wide, narrow,
-    );
-    text(stdout, name);
-    text(stdout, b" plain ");
-    answer(stdout, a, legs_written(a), journey, wide, narrow);
-}
-
-pub fn rows(
-    stdout: &impl Print,
-    name: &[u8],
-    node_modes: &[u8],
-    node_ranks: &[u16],
-    tails: &[u16],
-    heads: &[u16],
-    modes: &[u8],
-    lengths: &[u16],
-    shortcut_tails: &[u16],
-    shortcut_heads: &[u16],
-    shortcut_modes: &[u8],
-    shortcut_lengths: &[u32],
-    shortcut_counts: &[u16],
-    shortcut_firsts: &[u16],
-    shortcut_seconds: &[u16],
-    sheet: [State; 8],
-    states: u8,
-    from: u16,
-    to: u16,
-    journey: &mut [u16],
-    wide: &mut [u64],
-    narrow: &mut [u32],
-) {
-    let told = search_rows(
-        node_modes,
-        node_ranks,
-        tails,
-        heads,
-        modes,
-        lengths,
-        shortcut_tails,
-        shortcut_heads,
-        shortcut_modes,
-        shortcut_lengths,
-        shortcut_counts,
-        shortcut_firsts,
-        shortcut_seconds,
-        sheet,
-        states,
-        from,
-        to,
+fn plain(stdout: &impl Print, case: Case, network: &Network, rooms: Rooms) {
+    let Rooms {
+        journey,
+        wide,
+        narrow,
+    } = rooms;
+    let answer = search_plain(
+        network,
+        &case.sheet,
+        case.from,
+        case.to,
         journey,
         wide,
         narrow,
     );
-    let a = told.answer;
-    let written = told.rows;
-    text(stdout, name);
-    text(stdout, b" rows ");
-    answer(stdout, a, written, journey, wide, narrow);
+    let rooms = Rooms {
+        journey,
+        wide,
+        narrow,
+    };
+    answered(
+        stdout,
+        case.name,
+        "plain",
+        answer,
+        legs_written(answer),
+        &rooms,
+    );
+}
+
+pub fn rows(
+    stdout: &impl Print,
+    case: Case,
+    network: &Network,
+    shortcuts: &Shortcuts,
+    rooms: Rooms,
+) {
+    let Rooms {
+        journey,
+        wide,
+        narrow,
+    } = rooms;
+    let told = search_rows(
+        network,
+        shortcuts,
+        &case.sheet,
+        case.from,
+        case.to,
+        journey,
+        wide,
+        narrow,
+    );
+    let rooms = Rooms {
+        journey,
+        wide,
+        narrow,
+    };
+    answered(stdout, case.name, "rows", told.answer, told.rows, &rooms);
+}
+
+// Both searches, in rooms of so many places.
+pub fn both<const JOURNEY: usize, const WIDE: usize, const NARROW: usize>(
+    stdout: &impl Print,
+    case: Case,
+    network: &Network,
+    shortcuts: &Shortcuts,
+)
+    requires { JOURNEY + WIDE + NARROW < 2 ^ 32 }
+{
+    let mut journey = [0; JOURNEY];
+    let mut wide = [0; WIDE];
+    let mut narrow = [0; NARROW];
+    let rooms = Rooms::filled(&mut journey, &mut wide, &mut narrow);
+    plain(stdout, case, network, rooms);
+    let again = Rooms::filled(&mut journey, &mut wide, &mut narrow);
+    rows(stdout, case, network, shortcuts, again);
 }

@@ -1,17 +1,18 @@
 // The reference network at its limits: a length, a rank, a number of states and a question on either side of what is allowed.
+use crate::ask::Case;
 use crate::reference::{with_shortcut, without_shortcut};
-use crate::sheets;
+use crate::sheets::{by_rail, rail_last};
 use network::order::CORE;
 use std::io::Print;
 
 pub fn run(stdout: &impl Print) {
-    without_shortcut(stdout, b"length 0", CORE, 0, sheets::by_rail(), 2, 0, 6);
-    without_shortcut(stdout, b"length 1", CORE, 1, sheets::by_rail(), 2, 0, 6);
-    with_shortcut(stdout, b"rank 65534", 65534, 9, sheets::by_rail(), 2, 0, 6);
-    with_shortcut(stdout, b"rank 65535", 65535, 9, sheets::by_rail(), 2, 0, 6);
-    with_shortcut(stdout, b"8 states", CORE, 9, sheets::rail_last(), 8, 0, 6);
-    with_shortcut(stdout, b"9 states", CORE, 9, sheets::rail_last(), 9, 0, 6);
-    with_shortcut(stdout, b"to node 6", CORE, 9, sheets::by_rail(), 2, 0, 6);
-    with_shortcut(stdout, b"to node 7", CORE, 9, sheets::by_rail(), 2, 0, 7);
-    with_shortcut(stdout, b"from node 7", CORE, 9, sheets::by_rail(), 2, 7, 7);
+    without_shortcut(stdout, CORE, 0, Case::new("length 0", by_rail(), 0, 6));
+    without_shortcut(stdout, CORE, 1, Case::new("length 1", by_rail(), 0, 6));
+    with_shortcut(stdout, 65534, 9, Case::new("rank 65534", by_rail(), 0, 6));
+    with_shortcut(stdout, 65535, 9, Case::new("rank 65535", by_rail(), 0, 6));
+    with_shortcut(stdout, CORE, 9, Case::new("8 states", rail_last(8), 0, 6));
+    with_shortcut(stdout, CORE, 9, Case::new("9 states", rail_last(9), 0, 6));
+    with_shortcut(stdout, CORE, 9, Case::new("to node 6", by_rail(), 0, 6));
+    with_shortcut(stdout, CORE, 9, Case::new("to node 7", by_rail(), 0, 7));
+    with_shortcut(stdout, CORE, 9, Case::new("from node 7", by_rail(), 7, 7));
 }

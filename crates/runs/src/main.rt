@@ -6,6 +6,7 @@ mod crowd;
 mod damage;
 mod limits;
 mod reference;
+mod rooms;
 mod sheets;
 mod show;
 mod trips;

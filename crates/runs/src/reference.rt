@@ -1,261 +1,74 @@
 // The reference network, with the rank of node 2 and the length of edge 6 as a case wants them.
-use crate::ask;
-use crate::show::{BLANK, FILLER};
-use network::sheet::State;
+ghost use Rattle.std.specs.Prelude.{◌+◌, ◌<◌, ◌^◌};
+
+use crate::ask::{Case, both};
+use crate::sheets::by_rail;
+use network::lent::{Network, Shortcuts};
+use network::order::CORE;
 use std::io::Print;
 
-// The plain search in lent rooms.
-pub fn plain_in(
-    stdout: &impl Print,
-    name: &[u8],
-    rank: u16,
-    length: u16,
-    sheet: [State; 8],
-    states: u8,
-    from: u16,
-    to: u16,
-    journey: &mut [u16],
-    wide: &mut [u64],
-    narrow: &mut [u32],
-) {
-    let node_modes: [u8; 7] = [1, 1, 1, 2, 2, 1, 1];
-    let node_ranks: [u16; 7] = [5, 0, rank, 65535, 65535, 65535, 5];
-    let tails: [u16; 8] = [0, 1, 2, 3, 4, 5, 0, 2];
-    let heads: [u16; 8] = [1, 2, 3, 4, 5, 6, 2, 5];
-    let modes: [u8; 8] = [1, 1, 0, 2, 0, 1, 1, 1];
-    let lengths: [u16; 8] = [4, 3, 2, 6, 2, 5, length, 30];
-    ask::plain(
-        stdout,
-        name,
-        &node_modes,
-        &node_ranks,
-        &tails,
-        &heads,
-        &modes,
-        &lengths,
-        sheet,
-        states,
-        from,
-        to,
-        journey,
-        wide,
-        narrow,
-    );
+#[derive(Drop)]
+pub struct Reference {
+    node_ranks: [u16; 7],
+    lengths: [u16; 8],
 }
 
-// The search over rows in lent rooms, with a lent table.
-pub fn rows_in(
-    stdout: &impl Print,
-    name: &[u8],
-    rank: u16,
-    length: u16,
-    shortcut_tails: &[u16],
-    shortcut_heads: &[u16],
-    shortcut_modes: &[u8],
-    shortcut_lengths: &[u32],
-    shortcut_counts: &[u16],
-    shortcut_firsts: &[u16],
-    shortcut_seconds: &[u16],
-    sheet: [State; 8],
-    states: u8,
-    from: u16,
-    to: u16,
-    journey: &mut [u16],
-    wide: &mut [u64],
-    narrow: &mut [u32],
-) {
-    let node_modes: [u8; 7] = [1, 1, 1, 2, 2, 1, 1];
-    let node_ranks: [u16; 7] = [5, 0, rank, 65535, 65535, 65535, 5];
-    let tails: [u16; 8] = [0, 1, 2, 3, 4, 5, 0, 2];
-    let heads: [u16; 8] = [1, 2, 3, 4, 5, 6, 2, 5];
-    let modes: [u8; 8] = [1, 1, 0, 2, 0, 1, 1, 1];
-    let lengths: [u16; 8] = [4, 3, 2, 6, 2, 5, length, 30];
-    ask::rows(
-        stdout,
-        name,
-        &node_modes,
-        &node_ranks,
-        &tails,
-        &heads,
-        &modes,
-        &lengths,
-        shortcut_tails,
-        shortcut_heads,
-        shortcut_modes,
-        shortcut_lengths,
-        shortcut_counts,
-        shortcut_firsts,
-        shortcut_seconds,
-        sheet,
-        states,
-        from,
-        to,
-        journey,
-        wide,
-        narrow,
-    );
+impl Reference {
+    pub fn new(rank: u16, length: u16) -> Reference {
+        Reference {
+            node_ranks: [5, 0, rank, CORE, CORE, CORE, 5],
+            lengths: [4, 3, 2, 6, 2, 5, length, 30],
+        }
+    }
+
+    pub fn network(&self) -> Network<'_> {
+        Network {
+            node_modes: &[1, 1, 1, 2, 2, 1, 1],
+            node_ranks: &self.node_ranks,
+            tails: &[0, 1, 2, 3, 4, 5, 0, 2],
+            heads: &[1, 2, 3, 4, 5, 6, 2, 5],
+            modes: &[1, 1, 0, 2, 0, 1, 1, 1],
+            lengths: &self.lengths,
+        }
+    }
 }
 
-// The search over rows with the prepared table: row 8 from 0 to 2, with the children `first` and `second`, which are 0 and 1 where it is sound.
-pub fn table_in(
-    stdout: &impl Print,
-    name: &[u8],
-    rank: u16,
-    length: u16,
-    first: u16,
-    second: u16,
-    sheet: [State; 8],
-    states: u8,
-    from: u16,
-    to: u16,
-    journey: &mut [u16],
-    wide: &mut [u64],
-    narrow: &mut [u32],
-) {
-    rows_in(
-        stdout,
-        name,
-        rank,
-        length,
-        &[0u16; 1],
-        &[2u16; 1],
-        &[1u8; 1],
-        &[7u32; 1],
-        &[2u16; 1],
-        &[first; 1],
-        &[second; 1],
-        sheet,
-        states,
-        from,
-        to,
-        journey,
-        wide,
-        narrow,
-    );
+// The table that preparation makes: row 8 from 0 to 2, with its children, which are 0 and 1 where it is sound.
+pub fn shortcut<'a>(firsts: &'a [u16], seconds: &'a [u16]) -> Shortcuts<'a> {
+    Shortcuts {
+        tails: &[0],
+        heads: &[2],
+        modes: &[1],
+        lengths: &[7],
+        counts: &[2],
+        firsts,
+        seconds,
+    }
 }
 
-fn plain(
+// P1 in rooms of so many places: a journey takes 6, and the work of seven nodes 112 and 224.
+pub fn in_rooms<const JOURNEY: usize, const WIDE: usize, const NARROW: usize>(
     stdout: &impl Print,
-    name: &[u8],
-    rank: u16,
-    length: u16,
-    sheet: [State; 8],
-    states: u8,
-    from: u16,
-    to: u16,
-) {
-    let mut journey = [BLANK; 8];
-    let mut wide = [FILLER as u64; 112];
-    let mut narrow = [FILLER as u32; 224];
-    plain_in(
+    name: &str,
+)
+    requires { JOURNEY + WIDE + NARROW < 2 ^ 32 }
+{
+    both::<JOURNEY, WIDE, NARROW>(
         stdout,
-        name,
-        rank,
-        length,
-        sheet,
-        states,
-        from,
-        to,
-        &mut journey,
-        &mut wide,
-        &mut narrow,
-    );
-}
-
-fn prepared(
-    stdout: &impl Print,
-    name: &[u8],
-    rank: u16,
-    length: u16,
-    sheet: [State; 8],
-    states: u8,
-    from: u16,
-    to: u16,
-) {
-    let mut journey = [BLANK; 8];
-    let mut wide = [FILLER as u64; 112];
-    let mut narrow = [FILLER as u32; 224];
-    table_in(
-        stdout,
-        name,
-        rank,
-        length,
-        0,
-        1,
-        sheet,
-        states,
-        from,
-        to,
-        &mut journey,
-        &mut wide,
-        &mut narrow,
-    );
-}
-
-fn unprepared(
-    stdout: &impl Print,
-    name: &[u8],
-    rank: u16,
-    length: u16,
-    sheet: [State; 8],
-    states: u8,
-    from: u16,
-    to: u16,
-) {
-    let none8: [u8; 0] = [];
-    let none16: [u16; 0] = [];
-    let none32: [u32; 0] = [];
-    let mut journey = [BLANK; 8];
-    let mut wide = [FILLER as u64; 112];
-    let mut narrow = [FILLER as u32; 224];
-    rows_in(
-        stdout,
-        name,
-        rank,
-        length,
-        &none16,
-        &none16,
-        &none8,
-        &none32,
-        &none16,
-        &none16,
-        &none16,
-        sheet,
-        states,
-        from,
-        to,
-        &mut journey,
-        &mut wide,
-        &mut narrow,
+        Case::new(name, by_rail(), 0, 6),
+        &Reference::new(CORE, 9).network(),
+        &shortcut(&[0], &[1]),
     );
 }
 
 // Both searches, the one over rows with the shortcut that preparation makes.
-pub fn with_shortcut(
-    stdout: &impl Print,
-    name: &[u8],
-    rank: u16,
-    length: u16,
-    sheet: [State; 8],
-    states: u8,
-    from: u16,
-    to: u16,
-) {
-    plain(stdout, name, rank, length, sheet, states, from, to);
-    prepared(stdout, name, rank, length, sheet, states, from, to);
+pub fn with_shortcut(stdout: &impl Print, rank: u16, length: u16, case: Case) {
+    let reference = Reference::new(rank, length);
+    both::<8, 112, 224>(stdout, case, &reference.network(), &shortcut(&[0], &[1]));
 }
 
 // Both searches, where edge 6 is so short that preparation makes no shortcut.
-pub fn without_shortcut(
-    stdout: &impl Print,
-    name: &[u8],
-    rank: u16,
-    length: u16,
-    sheet: [State; 8],
-    states: u8,
-    from: u16,
-    to: u16,
-) {
-    plain(stdout, name, rank, length, sheet, states, from, to);
-    unprepared(stdout, name, rank, length, sheet, states, from, to);
+pub fn without_shortcut(stdout: &impl Print, rank: u16, length: u16, case: Case) {
+    let reference = Reference::new(rank, length);
+    both::<8, 112, 224>(stdout, case, &reference.network(), &Shortcuts::NONE);
 }

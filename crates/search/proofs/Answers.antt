@@ -7,7 +7,8 @@ use Rattle.network.specs.declared.weight.Weight.{Weight}
 use Rattle.network.specs.declared.rows.Row.{Row}
 use Rattle.network.specs.Weight.{zero_weight}
 use Rattle.network.specs.Network.{Network, nodes, Sound}
-use Rattle.network.specs.Sheet.{Sheet, entry}
+use Rattle.network.specs.declared.sheet.Sheet.{Sheet}
+use Rattle.network.specs.Sheet.{entry}
 use Rattle.network.specs.Rows.{SoundTable}
 use Rattle.network.specs.Journey.{weight, Least, None}
 use Rattle.search.proofs.Deciding.{◌&◌, bit_known}
@@ -22,12 +23,6 @@ start_known S from p = map_dec
     (λ h. record { here = h.0; fresh = h.1.0; known = h.1.1.0; initial = h.1.1.1 })
     (λ s. (s.here, (s.fresh, (s.known, s.initial))))
     (ℕ_discrete (node_of p) from & ℕ_discrete (phase_of p) 0 & dec_lt (state_of p) S.states & bit_known (entry S (state_of p)).ends 0)
-
-pub target_known : (S : Sheet) (to p : ℕ) → Dec (TargetAt S to p)
-target_known S to p = map_dec
-    (λ h. record { here = h.0; known = h.1.0; final = h.1.1 })
-    (λ t. (t.here, (t.known, t.final)))
-    (ℕ_discrete (node_of p) to & dec_lt (state_of p) S.states & bit_known (entry S (state_of p)).ends 1)
 
 -- a search of those of P
 module _ {N : Network} {ss : List Row} {S : Sheet} {Down : ℕ → ℕ → Type 0} {from to : ℕ} {P : List ℕ → Type 0} (sound : Sound N)

@@ -1,6 +1,6 @@
 -- Bounds: "The best path repeats no (node, state) pair, so an answer has at most 4,095 edges and 268,365,825 seconds. (Over damaged but sound
 -- rows: 4,095 rows, so 2,092,545 edges and 137,134,936,575 seconds.)"
-use mathlib.Core.Path.{◌≡◌, refl, ap, subst, subst₂, ◌∙◌}
+use mathlib.Core.Path.{◌≡◌, ap, subst, subst₂, ◌∙◌}
 use mathlib.Core.Logic.{⊎_elim}
 use mathlib.Core.List.{List, [], ◌∷◌}
 use Prim.Native.Nat.{ℕ, ◌*◌, ◌<◌, ◌≤◌}
@@ -13,11 +13,11 @@ use Rattle.network.specs.declared.weight.Weight.{Weight}
 use Rattle.network.specs.declared.rows.Row.{Row}
 use Rattle.network.specs.Weight.{zero_weight, Lighter}
 use Rattle.network.specs.Network.{Network, nodes, Sound}
-use Rattle.network.specs.Sheet.{Sheet, Counted}
+use Rattle.network.specs.declared.sheet.Sheet.{Sheet}
+use Rattle.network.specs.Sheet.{Counted}
 use Rattle.network.specs.Rows.{Columns, SoundTable, table}
 use Rattle.network.specs.Journey.{Way, stay, ride, change, weight, Journey, Least, Stop, stops, Absent, Unrepeated}
 use Rattle.network.specs.Answers.{shown}
-use Rattle.network.specs.Answers
 use Rattle.network.proofs.WeightLaws.{not-≼-lighter}
 use Rattle.network.proofs.RowLaws.{row_fine}
 use Rattle.network.proofs.Pigeonhole.{Distinct, and}
@@ -158,6 +158,5 @@ pub few_rows_written : {N : Network} {T : Columns} {S : Sheet} {from to : ℕ} {
     → FewWritten a written
 few_rows_written (refuses r e w j u) = nothing_written e w
 few_rows_written {N} {T} {S} {from} {to} {wide = wide} {narrow = narrow} (searches q s z) =
-    let r = rows_ready {N = N} {T = T} {S = S} {from = from} {to = to} {w = length wide} {n = length narrow} {a = shown 0 0} (Answers.accepts refl q)
-    refl in
+    let r = rows_ready {N = N} {T = T} {S = S} {from = from} {to = to} {w = length wide} {n = length narrow} q in
     sought_few r.table_sound.sound r.table_sound.sound_table r.sheet.counted s

@@ -1,5 +1,5 @@
 -- A place is left: it is settled, and every row is tried from it.
-use mathlib.Core.Path.{◌≡◌, refl, sym, ap, subst, ◌∙◌}
+use mathlib.Core.Path.{◌≡◌, refl, sym, ap, subst₂, ◌∙◌}
 use mathlib.Core.Bool.{Bool}
 use mathlib.Core.List.{List}
 use Prim.Native.Nat.{ℕ, ◌+◌, ◌*◌, ◌/◌, ◌%◌, ◌<◌}
@@ -10,11 +10,11 @@ use lib.Seq.{get_or-set_same, get_or-set_other}
 use Rattle.network.specs.declared.weight.Weight.{Weight}
 use Rattle.network.specs.declared.rows.Row.{Row}
 use Rattle.network.specs.Network.{Network, nodes}
-use Rattle.network.specs.Sheet.{Sheet}
+use Rattle.network.specs.declared.sheet.Sheet.{Sheet}
 use Rattle.network.specs.Rows.{rows}
 use Rattle.network.proofs.WeightLaws.{weight-≡}
-use Rattle.search.specs.Labels.{label, word, row_before, hint, Hinted, Worked}
-use Rattle.search.specs.Steps.{Light, Left}
+use Rattle.search.specs.Labels.{label, word, row_before, Worked}
+use Rattle.search.specs.Steps.{Left}
 use Rattle.search.proofs.Relaxing.{relax_from}
 
 module _ (narrow : List ℕ) {narrow₁ : List ℕ} (p : ℕ) (inside : 2 * p + 1 < length narrow) (e : narrow₁ ≡ set narrow (2 * p + 1) (word narrow p / 2 * 2)) where
@@ -40,25 +40,16 @@ module _ (narrow : List ℕ) {narrow₁ : List ℕ} (p : ℕ) (inside : 2 * p + 
   low_same : (v : ℕ) → word narrow₁ v / 2 % 16 ≡ word narrow v / 2 % 16
   low_same v = ap (λ (x : ℕ). x % 16) (but_the_bit v)
 
-  hint_same : (v : ℕ) → hint narrow₁ v ≡ hint narrow v
-  hint_same v = omega (arith, but_the_bit (16 * v))
-
   pub settled_size : length narrow₁ ≡ length narrow
   settled_size = ap length e ∙ length-set narrow (2 * p + 1) (word narrow p / 2 * 2)
 
-  pub settled_hinted : {N : Network} {ss : List Row} {Down : ℕ → ℕ → Type 0} {to : ℕ} → Hinted N ss Down to narrow → Hinted N ss Down to narrow₁
-  settled_hinted h = record {
-    truly = λ v l k. h.truly v l (sym (hint_same v) ∙ k);
-    falsely = λ v l k. h.falsely v l (sym (hint_same v) ∙ k);
-  }
-
-  pub left : (plain : Bool) {N : Network} {ss : List Row} {S : Sheet} {from to : ℕ} {w : Weight} {wide wide' narrow' : List ℕ} → p < 16 * nodes N → w ≡ label wide narrow p
-      → Worked plain N ss S from to p w (λ r v. r < rows N ss) wide narrow₁ wide' narrow' → Left plain N ss S from to p wide narrow wide' narrow'
-  left plain {N} {ss} {S} {from} {to} {w} {wide} {wide'} {narrow'} l ew k = record {
+  pub left : (plain : Bool) {N : Network} {ss : List Row} {S : Sheet} {from to : ℕ} {w : Weight} {wide wide' narrow' : List ℕ} (n : ℕ) → n ≡ rows N ss → p < 16 * nodes N → w ≡ label wide narrow p
+      → Worked plain N ss S from to p w (λ r v. r < n) wide narrow₁ wide' narrow' → Left plain N ss S from to p wide narrow wide' narrow'
+  left plain {N} {ss} {S} {from} {to} {w} {wide} {wide'} {narrow'} n en l ew k = record {
     wide_size = k.wide_size;
     narrow_size = k.narrow_size ∙ settled_size;
     relaxed = relax_from
-        (subst (λ x. Worked plain N ss S from to p x (λ r v. r < rows N ss) wide narrow₁ wide' narrow') ew k).relaxed
+        (subst₂ (λ x m. Worked plain N ss S from to p x (λ r v. r < m) wide narrow₁ wide' narrow') ew en k).relaxed
         (λ v m. record {
           label = weight-≡ refl (edges_same v);
           by_row = row_same v;
@@ -70,6 +61,3 @@ module _ (narrow : List ℕ) {narrow₁ : List ℕ} (p : ℕ) (inside : 2 * p + 
     };
     hinted = k.hinted;
   }
-
-pub light_at : {N : Network} {ss : List Row} {w w' : Weight} → Light N ss w → w' ≡ w → Light N ss w'
-light_at {N} {ss} l e = subst (λ x. Light N ss x) (sym e) l

@@ -7,15 +7,16 @@ use native.Mathlib.Nat.{mul-zero}
 use native.Mathlib.Omega.{arith}
 use lib.ListN.{length, set, take, drop, replicate, length-set, length-take, length-drop, take-append-drop}
 use lib.Seq.{drop-cons, drop-set-lt, get_or-set_same}
+use Rattle.std.specs.Prelude.{Option, None, Some as is}
 use Rattle.network.specs.declared.answer.Answer.{Answer}
 use Rattle.network.specs.declared.weight.Weight.{Weight}
+use Rattle.network.specs.declared.refusal.Refusal.{Refusal}
 use Rattle.network.specs.declared.rows.Row.{Row}
 use Rattle.network.specs.Network.{Network, nodes, Sound}
 use Rattle.network.specs.Rows.{Columns, columns, Even, SoundTable, row, listed, table}
-use Rattle.network.specs.Sheet.{Sheet}
-use Rattle.network.specs.Refusal.{Rule, Passed}
-use Rattle.network.specs.Answers.{row_read, Checked}
-use Rattle.network.specs.Answers
+use Rattle.network.specs.declared.sheet.Sheet.{Sheet}
+use Rattle.network.specs.Refusal.{Rule, Refused, Passed}
+use Rattle.network.specs.Answers.{row_read, number_of, refused, shown}
 use Rattle.network.specs.Journey.{Journey}
 use Rattle.network.specs.Weight.{zero_weight}
 use Rattle.network.proofs.Bounds.{way_adds}
@@ -28,13 +29,12 @@ use Rattle.search.specs.Answers.{told, Sought, no_journey, no_room, found, Answe
 use Rattle.search.specs.Orders.{plain_order, rows_order}
 use Rattle.search.specs.Graph.{Greedy, Some, back}
 use Rattle.search.specs.Places.{search_graph}
-use Rattle.search.specs.Labels.{label, word, mark, row_before, place_before}
-use Rattle.search.specs.Steps.{Ready, Ended, nowhere, arrived, Ran}
-use Rattle.search.specs.Delivery.{edges_to, rows_to, Leads, begins, steps, Reach, beyond, reached, Delivered, no_place, too_short, delivered}
+use Rattle.search.specs.Labels.{label, word, mark, row_before, place_before, Falls}
+use Rattle.search.specs.Steps.{Ready, Arrived, Ended, Ran}
+use Rattle.search.specs.Delivery.{edges_to, rows_to, Leads, begins, steps, Reached, Reach, FromPlace, too_short, delivered, Delivered}
 use Rattle.search.proofs.Greedy.{tracing_start, tracing_parent}
 use Rattle.search.proofs.Searches.{Walks, search_laws, search_counts, label_small, up_down_walks, plain_walks}
 use Rattle.search.proofs.Answers.{search_found, search_none, search_traced}
-use Rattle.search.proofs.RefusalLaws.{checked_passed}
 
 -- what is read of the columns is the place before
 pub place_read : (N : Network) {T : Columns} → Even T → (narrow : List ℕ) (p : ℕ) {r low : ℕ} {x : Row} → r ≡ row_before narrow p
@@ -85,22 +85,24 @@ pub record Counting (N : Network) (ss : List Row) (narrow : List ℕ) (p : ℕ) 
   pub fewer : n + edges_to narrow v ≤ edges_to narrow p
 
 module _ {N : Network} {ss : List Row} {narrow : List ℕ} {p : ℕ} {all : List ℕ} where
-  pub count_start : Leads N ss narrow p [] all → Counting N ss narrow p all 0 p
-  count_start t = record { seen = []; leads = t; counted = refl; fewer = omega arith }
+  -- the label w was read at the place v
+  module _ {n v : ℕ} {w : Weight} (wide : List ℕ) (k : Counting N ss narrow p all n v) (ew : w ≡ label wide narrow v) where
+    on_way : (w.edges ≡ 0 → ⊥) → Step N ss narrow v k.seen all
+    on_way z = leads_step k.leads (λ e. z (ap (λ x. x.edges) ew ∙ e))
 
-  pub count_more : {n v x : ℕ} → Counting N ss narrow p all n v → (edges_to narrow v ≡ 0 → ⊥) → x ≡ place_before N ss narrow v
-      → Counting N ss narrow p all (n + 1) x
-  count_more {n} {v} {x} k z e =
-      let s = leads_step k.leads z in
-      subst (λ (y : ℕ). Counting N ss narrow p all (n + 1) y) (sym e)
-      (record { seen = row_before narrow v ∷ k.seen; leads = s.rest; counted = omega (arith, k.counted); fewer = omega (arith, k.fewer, s.falls) })
+    pub steps_more : (w.edges ≡ 0 → ⊥) → {x : ℕ} → x ≡ place_before N ss narrow v → Counting N ss narrow p all (n + 1) x
+    steps_more z {x} e = subst (λ (y : ℕ). Counting N ss narrow p all (n + 1) y) (sym e) (record {
+      seen = row_before narrow v ∷ k.seen;
+      leads = (on_way z).rest;
+      counted = omega (arith, k.counted);
+      fewer = omega (arith, k.fewer, (on_way z).falls);
+    })
 
-  pub count_falls : {n v x : ℕ} → Counting N ss narrow p all n v → (edges_to narrow v ≡ 0 → ⊥) → x ≡ place_before N ss narrow v
-      → edges_to narrow x < edges_to narrow v
-  count_falls {v = v} {x = x} k z e = subst (λ (y : ℕ). edges_to narrow y < edges_to narrow v) (sym e) (leads_step k.leads z).falls
+    pub steps_fall : (w.edges ≡ 0 → ⊥) → {x : ℕ} → x ≡ place_before N ss narrow v → edges_to narrow x < edges_to narrow v
+    steps_fall z e = subst (λ (y : ℕ). edges_to narrow y < edges_to narrow v) (sym e) (on_way z).falls
 
-  pub count_done : {n v : ℕ} → Counting N ss narrow p all n v → edges_to narrow v ≡ 0 → n ≡ length all
-  count_done k z = k.counted ∙ ap length (sym (leads_whole k.leads z))
+    pub steps_done : w.edges ≡ 0 → n ≡ length all
+    steps_done z = k.counted ∙ ap length (sym (leads_whole k.leads (sym (ap (λ x. x.edges) ew) ∙ z)))
 
 -- the rows from the place k of the journey room on are written, and v is the place before them
 pub record Writing (N : Network) (ss : List Row) (narrow : List ℕ) (n : ℕ) (all journey₀ journey : List ℕ) (v k : ℕ) : Type 0 where
@@ -108,15 +110,6 @@ pub record Writing (N : Network) (ss : List Row) (narrow : List ℕ) (n : ℕ) (
   pub size : length journey ≡ length journey₀
   pub leads : Leads N ss narrow v (take (n - k) (drop k journey)) all
   pub rest : drop n journey ≡ drop n journey₀
-
-pub write_start : {N : Network} {ss : List Row} {narrow : List ℕ} {p n : ℕ} {all journey : List ℕ} → Leads N ss narrow p [] all
-    → Writing N ss narrow n all journey journey p n
-write_start {N} {ss} {narrow} {p} {n} {all} {journey} t = record {
-  within = omega arith;
-  size = refl;
-  leads = let z : n - n ≡ 0 = omega arith in subst (λ (m : ℕ). Leads N ss narrow p (take m (drop n journey)) all) (sym z) t;
-  rest = refl;
-}
 
 module _ {N : Network} {ss : List Row} {narrow : List ℕ} {n : ℕ} {all journey₀ journey : List ℕ} (whole : n ≡ length all)
     (room : n ≤ length journey₀) where
@@ -159,20 +152,28 @@ module _ {N : Network} {ss : List Row} {narrow : List ℕ} {n : ℕ} {all journe
       ∙ ap₂ ◌++◌ (ap (λ (x : ℕ). take x journey) (sym z) ∙ sym (leads_full w.leads (omega (arith, whole, written_length w)))) w.rest
   write_done (suc k) w m = absurd (omega arith)
 
--- the answers of a place
-module _ {places u : ℕ} {w w' : Weight} {rs journey : List ℕ} (l : u < places) (e : w ≡ w') where
-  pub deliver_short : length journey < w.edges → Delivered places u w' rs journey journey (told 8 w) 0
-  deliver_short h = too_short l (subst (λ (x : Weight). length journey < x.edges) e h) (ap (told 8) e) refl refl
+-- what is known of the end, at the place u
+module _ (N : Network) (ss : List Row) (narrow : List ℕ) {end : Option ℕ} {u : ℕ} (e : end ≡ is u) where
+  pub reach_at : Reach N ss narrow end → Reached N ss narrow u
+  reach_at = subst (Reach N ss narrow) e
 
-  pub deliver_whole : {journey' : List ℕ} {n : ℕ} → w.edges ≤ length journey → n ≡ length rs → journey' ≡ rs ++ drop n journey
-      → Delivered places u w' rs journey journey' (told 0 w) n
-  deliver_whole {journey'} {n} h c j =
-      delivered l (subst (λ (x : Weight). x.edges ≤ length journey) e h) (ap (told 0) e) c (j ∙ ap (λ (m : ℕ). rs ++ drop m journey) c)
+  module _ {w : Weight} (wide : List ℕ) (ew : w ≡ label wide narrow u) (journey : List ℕ) {a : Answer} where
+    -- the answers from there
+    pub deliver_short : length journey < w.edges → a ≡ told 8 w → Delivered N ss wide narrow end journey journey a 0
+    deliver_short h ea = subst (λ x. Delivered N ss wide narrow x journey journey a 0) (sym e)
+        (too_short (subst (λ (x : Weight). length journey < x.edges) ew h) (ea ∙ ap (told 8) ew) refl refl)
 
-pub reach_leads : {N : Network} {ss : List Row} {narrow : List ℕ} {places u : ℕ} → Reach N ss narrow places u → u < places
-    → (edges_to narrow u ≤ 4294967295) × Leads N ss narrow u [] (rows_to N ss narrow u)
-reach_leads (beyond h) l = absurd (omega arith)
-reach_leads (reached f t) l = (f, t)
+    pub deliver_whole : {journey' : List ℕ} {n : ℕ} → w.edges ≤ length journey → a ≡ told 0 w → n ≡ length (rows_to N ss narrow u)
+        → journey' ≡ rows_to N ss narrow u ++ drop n journey → Delivered N ss wide narrow end journey journey' a n
+    deliver_whole {journey'} {n} h ea c j = subst (λ x. Delivered N ss wide narrow x journey journey' a n) (sym e)
+        (delivered (subst (λ (x : Weight). x.edges ≤ length journey) ew h) (ea ∙ ap (told 0) ew) c
+        (j ∙ ap (λ (m : ℕ). rows_to N ss narrow u ++ drop m journey) c))
+
+-- there is no end
+pub deliver_nowhere : (N : Network) (ss : List Row) (wide narrow : List ℕ) (end : Option ℕ) (journey : List ℕ) {a : Answer}
+    → ((u : ℕ) → end ≡ is u → ⊥) → a ≡ shown 7 0 → Delivered N ss wide narrow end journey journey a 0
+deliver_nowhere N ss wide narrow None journey n e = record { number = e; no_rows = refl; room_same = refl }
+deliver_nowhere N ss wide narrow (is u) journey n e = absurd (n u refl)
 
 -- the rows are no more than the edges
 pub rows_fit : {N : Network} {ss : List Row} {narrow : List ℕ} {u n m k : ℕ} {all : List ℕ} → Leads N ss narrow u [] all → n ≡ length all
@@ -207,91 +208,81 @@ module _ {N : Network} {ss : List Row} {S : Sheet} {Down : ℕ → ℕ → Type 
           let j : v < 8192 = omega (arith, l, sound.sized.few_nodes) in
           steps j q.1 (ih i (g.labelled x i q.0.settled) (omega (arith, q.1)))
 
-  pub reached_by : {u : ℕ} → u < 16 * nodes N → Some (search_graph N ss S Down from to) (label wide narrow u) → (places : ℕ) → Reach N ss narrow places u
-  reached_by {u} l h places =
+  pub reached_by : {u : ℕ} → u < 16 * nodes N → Some (search_graph N ss S Down from to) (label wide narrow u) → Reached N ss narrow u
+  reached_by {u} l h =
       let b = label_small sound table g l (not-≼-lighter h) in
-      reached (omega (arith, b.few, b.edges_small)) (leads_back (edges_to narrow u) l h (omega arith))
+      record { few = omega (arith, b.few, b.edges_small); leads = leads_back (edges_to narrow u) l h (omega arith) }
 
-module _ {N : Network} {ss : List Row} {S : Sheet} {Down : ℕ → ℕ → Type 0} {from to : ℕ} (sound : Sound N) (table : SoundTable N ss)
-    (inside : from < nodes N) (wide narrow : List ℕ) {u : ℕ} where
-  pub ended_reach : Ended (search_graph N ss S Down from to) (label wide narrow) (mark narrow) (row_before narrow) (place_before N ss narrow) u
-      → Reach N ss narrow (16 * nodes N) u
-  ended_reach (nowhere l g unmet nobody) = beyond l
-  ended_reach (arrived g unmet pick t) = reached_by sound table inside wide narrow g pick.inside pick.some (16 * nodes N)
+module _ {N : Network} {ss : List Row} (S : Sheet) (Down : ℕ → ℕ → Type 0) {from : ℕ} (to : ℕ) (sound : Sound N) (table : SoundTable N ss)
+    (inside : from < nodes N) (wide narrow : List ℕ) where
+  pub ended_reach : (end : Option ℕ)
+      → Ended (search_graph N ss S Down from to) (label wide narrow) (mark narrow) (row_before narrow) (place_before N ss narrow) end
+      → Reach N ss narrow end
+  ended_reach None e = tt
+  ended_reach (is u) e = reached_by sound table inside wide narrow e.greedy e.lightest.inside e.lightest.some
 
 -- So the answer that is delivered is what was sought.
 module _ {N : Network} {ss : List Row} {S : Sheet} {Down : ℕ → ℕ → Type 0} {from to : ℕ} {P : List ℕ → Type 0} (sound : Sound N)
-    (table : SoundTable N ss) (inside : from < nodes N) (walks : Walks N ss S Down from to P) (wide narrow : List ℕ) {u : ℕ} where
-  pub ended_sought : {journey journey' : List ℕ} {a : Answer} {written : ℕ}
-      → Ended (search_graph N ss S Down from to) (label wide narrow) (mark narrow) (row_before narrow) (place_before N ss narrow) u
-      → Delivered (16 * nodes N) u (label wide narrow u) (rows_to N ss narrow u) journey journey' a written
-      → Sought N ss P journey journey' a written
-  ended_sought (nowhere l g unmet nobody) (no_place h e w j) = no_journey (search_none sound table inside walks g nobody unmet) e w j
-  ended_sought (nowhere l g unmet nobody) (too_short h f e w j) = absurd (omega arith)
-  ended_sought (nowhere l g unmet nobody) (delivered h f e w j) = absurd (omega arith)
-  ended_sought (arrived g unmet pick t) (no_place h e w j) = absurd (omega (arith, pick.inside))
-  ended_sought (arrived g unmet pick t) (too_short h f e w j) = no_room (search_found sound table inside walks g pick unmet t) f e w j
-  ended_sought (arrived g unmet pick t) (delivered h f e w j) =
-      let o = search_traced sound table inside walks g pick t (edges_to narrow u) (omega arith) in
-      found (search_found sound table inside walks g pick unmet t) f e o.0 o.1 w j
+    (table : SoundTable N ss) (inside : from < nodes N) (walks : Walks N ss S Down from to P) (wide narrow : List ℕ) where
+  found_sought : {u : ℕ} {journey journey' : List ℕ} {a : Answer} {written : ℕ}
+      → Arrived (search_graph N ss S Down from to) (label wide narrow) (mark narrow) (row_before narrow) (place_before N ss narrow) u
+      → FromPlace (label wide narrow u) (rows_to N ss narrow u) journey journey' a written → Sought N ss P journey journey' a written
+  found_sought e (too_short f d w j) = no_room (search_found sound table inside walks e.greedy e.lightest e.unmet e.target) f d w j
+  found_sought {u} e (delivered f d w j) =
+      let o = search_traced sound table inside walks e.greedy e.lightest e.target (edges_to narrow u) (omega arith) in
+      found (search_found sound table inside walks e.greedy e.lightest e.unmet e.target) f d o.0 o.1 w j
+
+  pub ended_sought : (end : Option ℕ) {journey journey' : List ℕ} {a : Answer} {written : ℕ}
+      → Ended (search_graph N ss S Down from to) (label wide narrow) (mark narrow) (row_before narrow) (place_before N ss narrow) end
+      → Delivered N ss wide narrow end journey journey' a written → Sought N ss P journey journey' a written
+  ended_sought None e d = no_journey (search_none sound table inside walks e.greedy e.nobody e.unmet) d.number d.no_rows d.room_same
+  ended_sought (is u) e d = found_sought e d
 
 -- What the search functions answer.
-pub answered_refused : {rules : List Rule} {N : Network} {ss : List Row} {P : List ℕ → Type 0} {journey wide narrow : List ℕ} {a : Answer} {written : ℕ}
-    → Checked rules a → (a.number ≡ 0 → ⊥) → written ≡ 0 → Answered rules N ss P journey journey wide wide narrow narrow a written
-answered_refused (Answers.accepts e p) n z = absurd (n (ap (λ (x : Answer). x.number) e))
-answered_refused (Answers.refuses e r) n z = refuses r e z refl (record { wide_same = refl; narrow_same = refl })
+pub answered_refused : {rules : List Rule} {N : Network} {ss : List Row} {P : List ℕ → Type 0} {journey wide narrow : List ℕ} {a : Answer}
+    (r : Refusal) → Refused rules (number_of r.fault) r.place → a ≡ refused r → Answered rules N ss P journey journey wide wide narrow narrow a 0
+answered_refused r broken e = refuses broken e refl refl (record { wide_same = refl; narrow_same = refl })
 
 -- zeroed after a search, which left the rooms as long as they were
-ran_zeroed : {plain : Bool} {N : Network} {ss : List Row} {S : Sheet} {from to u : ℕ} {wide wide₁ wide' narrow narrow₁ narrow' : List ℕ}
-    → Ran plain N ss S from to wide narrow wide₁ narrow₁ u → Zeroed wide₁ wide' narrow₁ narrow' → Zeroed wide wide' narrow narrow'
+ran_zeroed : {plain : Bool} {N : Network} {ss : List Row} {S : Sheet} {from to : ℕ} {end : Option ℕ} {wide wide₁ wide' narrow narrow₁ narrow' : List ℕ}
+    → Ran plain N ss S from to wide narrow wide₁ narrow₁ end → Zeroed wide₁ wide' narrow₁ narrow' → Zeroed wide wide' narrow narrow'
 ran_zeroed ran z = record {
   wide_zero = z.wide_zero ∙ ap (λ (n : ℕ). replicate n 0) ran.wide_size;
   narrow_zero = z.narrow_zero ∙ ap (λ (n : ℕ). replicate n 0) ran.narrow_size;
 }
 
 -- what is lent to `deliver`
-pub ran_lent : {plain : Bool} {N : Network} {T : Columns} {S : Sheet} {from to u w n : ℕ} {wide wide₁ narrow narrow₁ : List ℕ} → Ready N T S from to w n
-    → Ran plain N (table T) S from to wide narrow wide₁ narrow₁ u
-    → ((16 * nodes N ≤ 8192) × Even T) × Reach N (table T) narrow₁ (16 * nodes N) u
-ran_lent {wide₁ = wide₁} {narrow₁ = narrow₁} ready ran =
-    let t = ready.table_sound in
-    ((omega (arith, t.sound.sized.few_nodes), t.even), ended_reach t.sound t.sound_table ready.from_in wide₁ narrow₁ ran.ended)
+pub ran_lent : {plain : Bool} {N : Network} {T : Columns} {S : Sheet} {from to w n : ℕ} {end : Option ℕ} {wide wide₁ narrow narrow₁ : List ℕ} → Ready N T S from to w n
+    → Ran plain N (table T) S from to wide narrow wide₁ narrow₁ end → Reach N (table T) narrow₁ end
+ran_lent {plain} {N} {S = S} {to = to} {end = end} {wide₁ = wide₁} {narrow₁ = narrow₁} ready ran =
+    let t = ready.table_sound in ended_reach S (Falls plain N.node_ranks) to t.sound t.sound_table ready.from_in wide₁ narrow₁ end ran.ended
 
 -- over rows
-module _ {N : Network} {T : Columns} {S : Sheet} {from to w n : ℕ} {a : Answer} (checked : Checked (rows_order N T S from to w n) a) (z : a.number ≡ 0) where
-  pub rows_passed : Passed (rows_order N T S from to w n)
-  rows_passed = checked_passed (rows_order N T S from to w n) (
-    (λ e. omega arith),
-    ((λ e. omega arith), ((λ e. omega arith), ((λ e. omega arith), ((λ e. omega arith), ((λ e. omega arith), ((λ e. omega arith), ((λ e. omega arith), tt))))))),
-  ) checked z
+pub rows_ready : {N : Network} {T : Columns} {S : Sheet} {from to w n : ℕ} → Passed (rows_order N T S from to w n) → Ready N T S from to w n
+rows_ready {N} {T} p = record {
+  table_sound = record {
+    sound = passed_sound N (p.0.0, (p.1.1.0, (p.1.1.1.0, (p.1.1.1.1.0, tt))));
+    even = p.0.1.even;
+    sound_table = passed_table N T (p.0.1, (p.1.1.1.1.1.0, tt));
+  };
+  sheet = p.1.1.1.1.1.1.0;
+  from_in = p.1.1.1.1.1.1.1.0.0;
+  to_in = p.1.1.1.1.1.1.1.0.1;
+  roomy = p.1.0;
+}
 
-  pub rows_ready : Ready N T S from to w n
-  rows_ready =
-      let p = rows_passed in
-      record {
-        table_sound = record {
-          sound = passed_sound N (p.0.0, (p.1.1.0, (p.1.1.1.0, (p.1.1.1.1.0, tt))));
-          even = p.0.1.even;
-          sound_table = passed_table N T (p.0.1, (p.1.1.1.1.1.0, tt));
-        };
-        sheet = p.1.1.1.1.1.1.0;
-        from_in = p.1.1.1.1.1.1.1.0.0;
-        to_in = p.1.1.1.1.1.1.1.0.1;
-        roomy = p.1.0;
-      }
-
-pub rows_searched : {N : Network} {T : Columns} {S : Sheet} {from to u : ℕ} {a b : Answer} {written : ℕ}
+pub rows_searched : {N : Network} {T : Columns} {S : Sheet} {from to : ℕ} {end : Option ℕ} {b : Answer} {written : ℕ}
     {journey journey' wide wide₁ wide' narrow narrow₁ narrow' : List ℕ}
-    → Checked (rows_order N T S from to (length wide) (length narrow)) a → a.number ≡ 0
-    → Ran false N (table T) S from to wide narrow wide₁ narrow₁ u
-    → Delivered (16 * nodes N) u (label wide₁ narrow₁ u) (rows_to N (table T) narrow₁ u) journey journey' b written
+    → Passed (rows_order N T S from to (length wide) (length narrow))
+    → Ran false N (table T) S from to wide narrow wide₁ narrow₁ end
+    → Delivered N (table T) wide₁ narrow₁ end journey journey' b written
     → Zeroed wide₁ wide' narrow₁ narrow'
     → Answered (rows_order N T S from to (length wide) (length narrow)) N (table T) (UpDownJourney N (table T) S from to) journey journey' wide wide' narrow narrow' b written
-rows_searched {wide₁ = wide₁} {narrow₁ = narrow₁} c z ran del cleared =
-    let r = rows_ready c z in
+rows_searched {end = end} {wide₁ = wide₁} {narrow₁ = narrow₁} passed ran del cleared =
+    let r = rows_ready passed in
     let t = r.table_sound in
-    searches (rows_passed c z)
-    (ended_sought t.sound t.sound_table r.from_in (up_down_walks t.sound t.sound_table r.sheet.counted) wide₁ narrow₁ ran.ended del)
+    searches passed
+    (ended_sought t.sound t.sound_table r.from_in (up_down_walks t.sound t.sound_table r.sheet.counted) wide₁ narrow₁ end ran.ended del)
     (ran_zeroed ran cleared)
 
 -- over the edges alone
@@ -302,28 +293,20 @@ no_shortcuts : table no_columns ≡ []
 unfolding table listed
 no_shortcuts = refl
 
-module _ {N : Network} {S : Sheet} {from to w n : ℕ} {a : Answer} (checked : Checked (plain_order N S from to w n) a) (z : a.number ≡ 0) where
-  pub plain_passed : Passed (plain_order N S from to w n)
-  plain_passed = checked_passed (plain_order N S from to w n) (
-    (λ e. omega arith),
-    ((λ e. omega arith), ((λ e. omega arith), ((λ e. omega arith), ((λ e. omega arith), ((λ e. omega arith), ((λ e. omega arith), tt)))))),
-  ) checked z
-
-  pub plain_ready : Ready N no_columns S from to w n
-  plain_ready =
-      let p = plain_passed in
-      let sound = passed_sound N (p.0, (p.1.1.0, (p.1.1.1.0, (p.1.1.1.1.0, tt)))) in
-      record {
-        table_sound = record {
-          sound = sound;
-          even = record { heads_even = refl; modes_even = refl; lengths_even = refl; counts_even = refl; firsts_even = refl; seconds_even = refl };
-          sound_table = subst (SoundTable N) (sym no_shortcuts) (no_table sound);
-        };
-        sheet = p.1.1.1.1.1.0;
-        from_in = p.1.1.1.1.1.1.0.0;
-        to_in = p.1.1.1.1.1.1.0.1;
-        roomy = p.1.0;
-      }
+pub plain_ready : {N : Network} {S : Sheet} {from to w n : ℕ} → Passed (plain_order N S from to w n) → Ready N no_columns S from to w n
+plain_ready {N} p =
+    let sound = passed_sound N (p.0, (p.1.1.0, (p.1.1.1.0, (p.1.1.1.1.0, tt)))) in
+    record {
+      table_sound = record {
+        sound = sound;
+        even = record { heads_even = refl; modes_even = refl; lengths_even = refl; counts_even = refl; firsts_even = refl; seconds_even = refl };
+        sound_table = subst (SoundTable N) (sym no_shortcuts) (no_table sound);
+      };
+      sheet = p.1.1.1.1.1.0;
+      from_in = p.1.1.1.1.1.1.0.0;
+      to_in = p.1.1.1.1.1.1.0.1;
+      roomy = p.1.0;
+    }
 
 -- as many edges are written as the answer counts, and none with a number above 0
 abbrev written_by : Answer → ℕ
@@ -340,25 +323,25 @@ plain_written {N} {S} {from} {to} sound (found {w = v} {legs = legs} l h e p s w
     w ∙ m ∙ o ∙ sym (ap written_by e)
 
 pub answered_refused_plain : {rules : List Rule} {N : Network} {ss : List Row} {P : List ℕ → Type 0} {journey wide narrow : List ℕ} {a : Answer}
-    → Checked rules a → (a.number ≡ 0 → ⊥) → Answered rules N ss P journey journey wide wide narrow narrow a ((1 - a.number) * a.count)
-answered_refused_plain (Answers.accepts e p) n = absurd (n (ap (λ (x : Answer). x.number) e))
-answered_refused_plain {a = a} (Answers.refuses {number = k} {place = p} e r) n =
-    let o : (1 - k) * 0 ≡ 0 = mul-zero (1 - k) in
-    refuses r e (ap written_by e ∙ o) refl (record { wide_same = refl; narrow_same = refl })
+    (r : Refusal) → Refused rules (number_of r.fault) r.place → a ≡ refused r
+    → Answered rules N ss P journey journey wide wide narrow narrow a ((1 - a.number) * a.count)
+answered_refused_plain r broken e =
+    let o : (1 - number_of r.fault) * 0 ≡ 0 = mul-zero (1 - number_of r.fault) in
+    refuses broken e (ap written_by e ∙ o) refl (record { wide_same = refl; narrow_same = refl })
 
-pub plain_searched : {N : Network} {S : Sheet} {from to u : ℕ} {a b : Answer} {written : ℕ}
+pub plain_searched : {N : Network} {S : Sheet} {from to : ℕ} {end : Option ℕ} {b : Answer} (written : ℕ)
     {journey journey' wide wide₁ wide' narrow narrow₁ narrow' : List ℕ}
-    → Checked (plain_order N S from to (length wide) (length narrow)) a → a.number ≡ 0
-    → Ran true N (table no_columns) S from to wide narrow wide₁ narrow₁ u
-    → Delivered (16 * nodes N) u (label wide₁ narrow₁ u) (rows_to N (table no_columns) narrow₁ u) journey journey' b written
+    → Passed (plain_order N S from to (length wide) (length narrow))
+    → Ran true N (table no_columns) S from to wide narrow wide₁ narrow₁ end
+    → Delivered N (table no_columns) wide₁ narrow₁ end journey journey' b written
     → Zeroed wide₁ wide' narrow₁ narrow'
     → Answered (plain_order N S from to (length wide) (length narrow)) N [] (Journey N [] S from to) journey journey' wide wide' narrow narrow' b ((1 - b.number) * b.count)
-plain_searched {N} {S} {from} {to} {u} {b = b} {written = written} {journey} {journey'} {wide} {wide₁} {narrow = narrow} {narrow₁ = narrow₁} c z ran del cleared =
-    let r = plain_ready c z in
+plain_searched {N} {S} {from} {to} {end} {b = b} written {journey} {journey'} {wide} {wide₁} {narrow = narrow} {narrow₁ = narrow₁} passed ran del cleared =
+    let r = plain_ready passed in
     let sound = r.table_sound.sound in
-    let ran' = subst (λ (ss : List Row). Ran true N ss S from to wide narrow wide₁ narrow₁ u) no_shortcuts ran in
-    let del' = subst (λ (ss : List Row). Delivered (16 * nodes N) u (label wide₁ narrow₁ u) (rows_to N ss narrow₁ u) journey journey' b written) no_shortcuts del in
-    let s = ended_sought sound (no_table sound) r.from_in (plain_walks sound r.sheet.counted) wide₁ narrow₁ ran'.ended del' in
-    searches (plain_passed c z)
+    let ran' = subst (λ (ss : List Row). Ran true N ss S from to wide narrow wide₁ narrow₁ end) no_shortcuts ran in
+    let del' = subst (λ (ss : List Row). Delivered N ss wide₁ narrow₁ end journey journey' b written) no_shortcuts del in
+    let s = ended_sought sound (no_table sound) r.from_in (plain_walks sound r.sheet.counted) wide₁ narrow₁ end ran'.ended del' in
+    searches passed
     (subst (λ (m : ℕ). Sought N [] (Journey N [] S from to) journey journey' b m) (plain_written sound s) s)
     (ran_zeroed ran cleared)

@@ -10,12 +10,11 @@ use Rattle.network.specs.declared.weight.Weight.{Weight}
 use Rattle.network.specs.declared.rows.Row.{Row}
 use Rattle.network.specs.Weight.{zero_weight}
 use Rattle.network.specs.Network.{Network, nodes, Sound}
-use Rattle.network.specs.Sheet.{Sheet}
+use Rattle.network.specs.declared.sheet.Sheet.{Sheet}
 use Rattle.network.specs.Rows.{Columns, SoundTable, table}
 use Rattle.network.specs.Journey.{weight, Journey}
 use Rattle.network.specs.Refusal.{Rule, Passed}
 use Rattle.network.specs.Answers.{shown}
-use Rattle.network.specs.Answers
 use Rattle.network.proofs.RowLaws.{no_table}
 use Rattle.network.proofs.Unique.{Singles, refused_unique, refused_passed, whole_single, each_single, sheet_single, question_single, least_unique, least_not_none}
 use Rattle.search.specs.UpDown.{UpDownJourney}
@@ -150,7 +149,7 @@ pub rows_search_unique : {N : Network} {T : Columns} {S : Sheet} {from to : ℕ}
 rows_search_unique {N} {T} {S} {from} {to} {wide = wide} {narrow = narrow} = answered_determined
     (whole_single, (whole_single, (each_single, (each_single, (each_single, (each_single, (sheet_single S, (question_single (nodes N) from to, tt))))))))
     (λ q.
-    let r = rows_ready {N = N} {T = T} {S = S} {from = from} {to = to} {w = length wide} {n = length narrow} {a = shown 0 0} (Answers.accepts refl q) refl in
+    let r = rows_ready {N = N} {T = T} {S = S} {from = from} {to = to} {w = length wide} {n = length narrow} q in
     rows_short r.table_sound.sound r.table_sound.sound_table (up_down_walks r.table_sound.sound r.table_sound.sound_table r.sheet.counted))
 
 -- `search_plain`, of which the count of an answer tells how many edges are written
@@ -162,5 +161,5 @@ pub plain_search_unique : {N : Network} {S : Sheet} {from to : ℕ}
 plain_search_unique {N} {S} {from} {to} {wide = wide} {narrow = narrow} = answered_determined
     (whole_single, (whole_single, (each_single, (each_single, (each_single, (sheet_single S, (question_single (nodes N) from to, tt)))))))
     (λ q.
-    let r = plain_ready {N = N} {S = S} {from = from} {to = to} {w = length wide} {n = length narrow} {a = shown 0 0} (Answers.accepts refl q) refl in
+    let r = plain_ready {N = N} {S = S} {from = from} {to = to} {w = length wide} {n = length narrow} q in
     rows_short r.table_sound.sound (no_table r.table_sound.sound) (plain_walks r.table_sound.sound r.sheet.counted))

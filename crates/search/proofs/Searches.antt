@@ -9,7 +9,8 @@ use Rattle.network.specs.declared.rows.Row.{Row}
 use Rattle.network.specs.Weight.{zero_weight, none_yet, ◌⊕◌, Lighter, Held}
 use Rattle.network.specs.Order.{Before}
 use Rattle.network.specs.Network.{Network, nodes, Sound}
-use Rattle.network.specs.Sheet.{Sheet, Initial, Final, Counted}
+use Rattle.network.specs.declared.sheet.Sheet.{Sheet}
+use Rattle.network.specs.Sheet.{Initial, Final, Counted}
 use Rattle.network.specs.Rows.{row, rows, cost, SoundTable}
 use Rattle.network.specs.Journey.{along, Journey, stops, Least, None}
 use Rattle.network.proofs.WeightLaws.{≼_refl, ≼_trans, ≼-mono, ≼-less, ≼-time, ≼-cancel_r, ≼-not_lighter, not-≼-lighter, lighter-≼, ⊕-time, ⊕-edges}

@@ -1,7 +1,7 @@
 -- The rides as a graph of the greedy theorem: its laws, how large labels grow, one turn of the loop, and what the rooms tell in the end.
 use mathlib.Core.Path.{◌≡◌, refl, sym, ap, subst, ◌∙◌}
 use mathlib.Core.Logic.{inl, inr, ⊎_elim}
-use mathlib.Core.Bool.{Bool, true, false, true≢false, cond}
+use mathlib.Core.Bool.{Bool, cond}
 use mathlib.Core.List.{List, [], ◌∷◌}
 use Prim.Native.Nat.{ℕ, ◌+◌, ◌-◌, ◌*◌, ◌<◌, ◌≤◌}
 use native.Mathlib.Omega.{arith}
@@ -17,7 +17,7 @@ use Rattle.network.proofs.WeightLaws.{◌≼◌, ≼_refl, ≼_trans, ≼-mono, 
 use Rattle.network.proofs.Counting.{waiting, waiting_drop}
 use Rattle.search.specs.Graph.{Trail, halt, on, after_all, Laws, Reached, Relaxed, Greedy, Lightest}
 use Rattle.search.specs.Labels.{label, mark, row_before}
-use Rattle.search.specs.Steps.{Picked, nobody, somebody}
+use Rattle.search.specs.Steps.{Foremost}
 use Rattle.search.specs.Witness.{Turn, node_count, row_count, ridden, Path, stay, onward, along_rides, path_weight, LeastPath, Reported, within, beyond, RestSame, Found, WitnessFits}
 use Rattle.search.specs.WitnessSteps.{
   rides_from,
@@ -32,10 +32,6 @@ use Rattle.search.specs.WitnessSteps.{
   Closed,
   Opened,
   Departed,
-  Past,
-  none_left,
-  too_heavy,
-  goes_on,
   Halted,
   all_found,
   too_far,
@@ -144,85 +140,67 @@ spreading_start {from = from} bound {wide' = wide'} {narrow' = narrow'} fits t o
   near = λ v l z. absurd (o.all_wait v l z);
 }
 
-module _ {Q : Turn} {from wl nl : ℕ} {bound : Weight} {wide₀ narrow₀ wide narrow : List ℕ} {u : ℕ} {b : Bool}
-    (fits : WitnessFits (node_count Q) (row_count Q) from wl nl) (t : Narrow Q) (s : Spreading Q from bound wide₀ narrow₀ wide narrow)
-    (picked : Picked (node_count Q) (label wide narrow) (mark narrow) u) (past : Past (node_count Q) bound (label wide narrow) u b) where
+module _ {Q : Turn} {from wl nl : ℕ} {bound : Weight} {wide₀ narrow₀ wide narrow : List ℕ}
+    (fits : WitnessFits (node_count Q) (row_count Q) from wl nl) (t : Narrow Q) (s : Spreading Q from bound wide₀ narrow₀ wide narrow) where
   laws : Laws (rides_from Q from)
   laws = rides_laws t fits.from_node fits.few_nodes
 
-  chosen : u < node_count Q → Picked (node_count Q) (label wide narrow) (mark narrow) u
-      → Lightest (rides_from Q from) (label wide narrow) (mark narrow) u
-  chosen l (nobody e f) = absurd (omega arith)
-  chosen l (somebody a w h f) = record { inside = a; waits = w; some = λ k. ≼-not_lighter k h; least = f }
-
-  past_inside : b ≡ false → Past (node_count Q) bound (label wide narrow) u b → u < node_count Q
-  past_inside e (none_left f l) = absurd (true≢false (sym f ∙ e))
-  past_inside e (too_heavy f l h) = l
-  past_inside e (goes_on f l n) = l
-
-  past_near : b ≡ false → Past (node_count Q) bound (label wide narrow) u b → label wide narrow u ≼ bound
-  past_near e (none_left f l) = absurd (true≢false (sym f ∙ e))
-  past_near e (too_heavy f l h) = absurd (true≢false (sym f ∙ e))
-  past_near e (goes_on f l n) = not_lighter-≼ n
-
-  pub turn_inside : b ≡ false → u < node_count Q
-  turn_inside e = past_inside e past
-
-  -- a label fits with any row's cost behind it
-  pub turn_addable : b ≡ false → Addable Q (label wide narrow u)
-  turn_addable e = record { each = λ r. held r }
-    where
-      reach : Reached (rides_from Q from) (mark narrow) s.settled_count (label wide narrow u) u
-      reach = s.greedy.reached u (turn_inside e) (chosen (turn_inside e) picked).some
-
-      small : Grown (length reach.rows) zero_weight (label wide narrow u)
-      small = subst (Grown (length reach.rows) zero_weight) reach.weighs (along_grown t from zero_weight reach.rows)
-
-      held : (r : ℕ) → Held (label wide narrow u ⊕ cost (ridden Q r))
-      held r = record {
-        time_held = omega (arith, small.time_bound, reach.short, s.greedy.counted, fits.few_nodes, ⊕-time (label wide narrow u) (cost (ridden Q r)), t.short r);
-        edges_held = omega (arith, small.edges_bound, reach.short, s.greedy.counted, fits.few_nodes, ⊕-edges (label wide narrow u) (cost (ridden Q r)), t.few r);
-      }
-
-  module _ {wide' narrow' : List ℕ} (e : b ≡ false) (l : Departed Q u wide narrow wide' narrow') where
-    near' : (v : ℕ) → v < node_count Q → Dec (v ≡ u) → mark narrow' v ≡ 0 → label wide' narrow' v ≼ bound
-    near' v m (yes z) _ = ≼_trans (relaxed_falls laws (relaxed_from from l.relaxed) v m)
-        (≼_trans (≡-≼ (ap (label wide narrow) z)) (past_near e past))
-    near' v m (no n) h = ≼_trans (relaxed_falls laws (relaxed_from from l.relaxed) v m)
-        (s.near v m (sym (l.settles.miss v m n) ∙ h))
-
-    pub turn_again : Spreading Q from bound wide₀ narrow₀ wide' narrow'
-    turn_again = record {
-      rest_same = rest_trans s.rest_same l.rest_same;
-      settled_count = s.settled_count + 1;
-      greedy = greedy_turn laws s.greedy (chosen (turn_inside e) picked) refl (record { each = λ r v a. a.there })
-          (relaxed_from from l.relaxed) (record { hit = l.settles.hit; miss = l.settles.miss });
-      near = λ v m h. near' v m (ℕ_discrete v u) h;
-    }
-
-    pub turn_less : left_over Q narrow' < left_over Q narrow
-    turn_less = omega (
-      arith,
-      waiting_drop (mark narrow) (mark narrow') (node_count Q) u (turn_inside e) (chosen (turn_inside e) picked).waits
-          l.settles.hit l.settles.miss,
-    )
-
-  halted : b ≡ true → Past (node_count Q) bound (label wide narrow) u b → Picked (node_count Q) (label wide narrow) (mark narrow) u
-      → Halted Q from bound (label wide narrow) (mark narrow)
-  halted e (goes_on f l n) p = absurd (true≢false (sym e ∙ f))
-  halted e (too_heavy f l h) p = too_far (chosen l p) h
-  halted e (none_left f l) (nobody g h) = all_found (record { each = h })
-  halted e (none_left f l) (somebody a w h g) = absurd (omega arith)
-
-  pub turn_over : {wide₁ narrow₁ : List ℕ} → RestSame (node_count Q) wide₁ narrow₁ wide₀ narrow₀ → b ≡ true
+  ended : {wide₁ narrow₁ : List ℕ} → RestSame (node_count Q) wide₁ narrow₁ wide₀ narrow₀ → Halted Q from bound (label wide narrow) (mark narrow)
       → Spread Q from bound wide₁ narrow₁ wide narrow
-  turn_over r e = record {
+  ended r h = record {
     rest_same = rest_trans r s.rest_same;
     settled_count = s.settled_count;
     greedy = s.greedy;
     near = s.near;
-    halted = halted e past picked;
+    halted = h;
   }
+
+  -- the node u is picked
+  module _ {u : ℕ} (picked : Foremost (node_count Q) (label wide narrow) (mark narrow) u) where
+    lightest : Lightest (rides_from Q from) (label wide narrow) (mark narrow) u
+    lightest = record { inside = picked.inside; waits = picked.waits; some = λ k. ≼-not_lighter k picked.labelled; least = picked.least }
+
+    pub turn_over : {wide₁ narrow₁ : List ℕ} → RestSame (node_count Q) wide₁ narrow₁ wide₀ narrow₀ → {w : Weight} → w ≡ label wide narrow u
+        → Lighter bound w → Spread Q from bound wide₁ narrow₁ wide narrow
+    turn_over r e h = ended r (too_far lightest (subst (Lighter bound) e h))
+
+    -- a label fits with any row's cost behind it
+    pub turn_addable : Addable Q (label wide narrow u)
+    turn_addable = record { each = λ r. held r }
+      where
+        reach : Reached (rides_from Q from) (mark narrow) s.settled_count (label wide narrow u) u
+        reach = s.greedy.reached u picked.inside lightest.some
+
+        small : Grown (length reach.rows) zero_weight (label wide narrow u)
+        small = subst (Grown (length reach.rows) zero_weight) reach.weighs (along_grown t from zero_weight reach.rows)
+
+        held : (r : ℕ) → Held (label wide narrow u ⊕ cost (ridden Q r))
+        held r = record {
+          time_held = omega (arith, small.time_bound, reach.short, s.greedy.counted, fits.few_nodes, ⊕-time (label wide narrow u) (cost (ridden Q r)), t.short r);
+          edges_held = omega (arith, small.edges_bound, reach.short, s.greedy.counted, fits.few_nodes, ⊕-edges (label wide narrow u) (cost (ridden Q r)), t.few r);
+        }
+
+    module _ {wide' narrow' : List ℕ} (l : Departed Q u wide narrow wide' narrow') where
+      near' : (Lighter bound (label wide narrow u) → ⊥) → (v : ℕ) → v < node_count Q → Dec (v ≡ u) → mark narrow' v ≡ 0 → label wide' narrow' v ≼ bound
+      near' h v m (yes z) _ = ≼_trans (relaxed_falls laws (relaxed_from from l.relaxed) v m)
+          (≼_trans (≡-≼ (ap (label wide narrow) z)) (not_lighter-≼ h))
+      near' h v m (no n) k = ≼_trans (relaxed_falls laws (relaxed_from from l.relaxed) v m)
+          (s.near v m (sym (l.settles.miss v m n) ∙ k))
+
+      pub turn_again : {w : Weight} → w ≡ label wide narrow u → (Lighter bound w → ⊥) → Spreading Q from bound wide₀ narrow₀ wide' narrow'
+      turn_again e h = record {
+        rest_same = rest_trans s.rest_same l.rest_same;
+        settled_count = s.settled_count + 1;
+        greedy = greedy_turn laws s.greedy lightest refl (record { each = λ r v a. a.there })
+            (relaxed_from from l.relaxed) (record { hit = l.settles.hit; miss = l.settles.miss });
+        near = λ v m k. near' (λ i. h (subst (Lighter bound) (sym e) i)) v m (ℕ_discrete v u) k;
+      }
+
+      pub turn_less : left_over Q narrow' < left_over Q narrow
+      turn_less = omega (
+        arith,
+        waiting_drop (mark narrow) (mark narrow') (node_count Q) u picked.inside picked.waits l.settles.hit l.settles.miss,
+      )
 
 -- the end: what is kept in the rooms is what is told
 module _ {Q : Turn} {from wl nl : ℕ} {bound : Weight} {wide₀ narrow₀ wide narrow wide' narrow' : List ℕ}

@@ -15,24 +15,10 @@ use Rattle.network.specs.Answers.{tail_read}
 use Rattle.network.proofs.RowLaws.{tail_read_row}
 use Rattle.network.proofs.WeightLaws.{◌≼◌, ≼_refl, ≼_trans, ≼-mono, ≼-less, ≡-≼, ≼-not_lighter, not-≼-lighter, not_lighter-≼, lighter-≼, weight-≡, sum_held}
 use Rattle.search.specs.Graph.{Laws, Same, Better}
-use Rattle.search.specs.Labels.{label, word, mark, row_before, word_by}
-use Rattle.search.specs.Witness.{Turn, node_count, row_count, ridden, Open, Ride, RestSame, WitnessFits}
-use Rattle.search.specs.WitnessSteps.{
-  all_rides,
-  node_before,
-  Addable,
-  Written,
-  Passed,
-  Emptied,
-  Opened,
-  Spacious,
-  Offer,
-  declined,
-  taken,
-  Attempted,
-  Departed,
-}
-use Rattle.search.proofs.Relaxing.{relax_only, relax_from, relax_join}
+use Rattle.search.specs.Labels.{label, word, mark, row_before, word_by, Written, Offer, declined, taken}
+use Rattle.search.specs.Witness.{Turn, node_count, row_count, ridden, Open, Ride, RestSame}
+use Rattle.search.specs.WitnessSteps.{all_rides, node_before, Addable, Passed, Emptied, Opened, Spacious, Attempted}
+use Rattle.search.proofs.Relaxing.{relax_only, relax_join}
 
 -- behind the nodes' numbers nothing changes
 pub rest_refl : {n : ℕ} {wide narrow : List ℕ} → RestSame n wide narrow wide narrow
@@ -89,51 +75,6 @@ pub record Passing (R : Weight → ℕ → Weight → ℕ → Type 0) (n : ℕ) 
   pub in_order : p ≤ n
   pub so_far : Passed R p wide₀ narrow₀ wide narrow
 
-pub passing_start : {R : Weight → ℕ → Weight → ℕ → Type 0} {n : ℕ} {wide narrow : List ℕ} → Passing R n wide narrow wide narrow 0
-passing_start = record { in_order = omega arith; so_far = record { rest_same = rest_refl; each = λ x l. absurd (omega arith) } }
-
-module _ {R : Weight → ℕ → Weight → ℕ → Type 0} {n : ℕ} {wide₀ narrow₀ wide narrow : List ℕ} {p : ℕ}
-    (s : Passing R n wide₀ narrow₀ wide narrow p) where
-  pub passing_more : {w : Weight} {k : ℕ} {wide' narrow' : List ℕ} → p < n → n ≤ length wide₀ → 2 * n ≤ length narrow₀
-      → R (label wide narrow p) (word narrow p) w k → Written p w k wide narrow wide' narrow' → Passing R n wide₀ narrow₀ wide' narrow' (p + 1)
-  passing_more {w} {k} {wide'} {narrow'} l a b r h = record {
-    in_order = omega arith;
-    so_far = record {
-      rest_same = rest_trans (record {
-        wide_size = rest.wide_size;
-        narrow_size = rest.narrow_size;
-        wide_rest = λ i m. rest.wide_rest i (omega arith);
-        narrow_rest = λ i m. rest.narrow_rest i (omega arith);
-      }) (written_rest h (omega arith));
-      each = λ x m. go x (dec_lt x p) m;
-    };
-  }
-    where
-      rest : RestSame p wide₀ narrow₀ wide narrow
-      rest = s.so_far.rest_same
-
-      here : R (label wide₀ narrow₀ p) (word narrow₀ p) (label wide' narrow' p) (word narrow' p)
-      here = subst₂ (λ x y. R (label wide₀ narrow₀ p) (word narrow₀ p) x y)
-          (sym (written_label h (omega (arith, rest.wide_size)) (omega (arith, rest.narrow_size))))
-          (sym (written_word h (omega (arith, rest.narrow_size))))
-          (subst₂ (λ x y. R x y w k)
-          (weight-≡ (rest.wide_rest p (omega arith)) (rest.narrow_rest (2 * p) (omega arith)))
-          (rest.narrow_rest (2 * p + 1) (omega arith))
-          r)
-
-      go : (x : ℕ) → Dec (x < p) → x < p + 1 → R (label wide₀ narrow₀ x) (word narrow₀ x) (label wide' narrow' x) (word narrow' x)
-      go x (yes m) _ = subst₂ (λ y z. R (label wide₀ narrow₀ x) (word narrow₀ x) y z)
-          (sym (label_miss h x (λ e. omega arith)))
-          (sym (word_miss h x (λ e. omega arith)))
-          (s.so_far.each x m)
-      go x (no m) k =
-          let e : p ≡ x = omega arith in
-          subst (λ (y : ℕ). R (label wide₀ narrow₀ y) (word narrow₀ y) (label wide' narrow' y) (word narrow' y)) e here
-
-  pub passing_done : n ≤ p → Passed R n wide₀ narrow₀ wide narrow
-  passing_done l =
-      let e : p ≡ n = omega (arith, s.in_order) in subst (λ (i : ℕ). Passed R i wide₀ narrow₀ wide narrow) e s.so_far
-
 -- the rooms as the search begins
 pub opened : {nodes : ℕ} (from : ℕ) {wide narrow wide₁ narrow₁ wide' narrow' : List ℕ} → from < nodes → nodes ≤ length wide
     → 2 * nodes ≤ length narrow → Passed Emptied nodes wide narrow wide₁ narrow₁ → Written from zero_weight 1 wide₁ narrow₁ wide' narrow'
@@ -164,18 +105,6 @@ all_rides_laws Q = record {
   head_in = λ p r q a. a.head_open.is_node;
   start_in = λ p s. absurd s;
   fits = λ p q rs s t l h. s;
-}
-
--- no ride was there to be tried
-attempted_none : {Q : Turn} {u : ℕ} {w : Weight} {T : ℕ → ℕ → Type 0} {wide narrow : List ℕ} → ((r x : ℕ) → T r x → Ride Q u r x → ⊥)
-    → Attempted Q u w T wide narrow wide narrow
-attempted_none n = record {
-  rest_same = rest_refl;
-  relaxed = record {
-    lower = λ v l. inl record { label = refl; by_row = refl; by_place = refl };
-    bound = λ r v a t. absurd (n r v t a);
-  };
-  marks = λ v l. refl;
 }
 
 -- a label was offered to the head x of a ride
@@ -253,40 +182,18 @@ module _ {Q : Turn} {u : ℕ} (w : Weight) {r x : ℕ} {new : Weight} (wide narr
       marks = λ v l. mark_kept v (ℕ_discrete v x);
     }
 
-  attempted_offer : {wide' narrow' : List ℕ} → Offer x new r wide narrow wide' narrow' → Attempted Q u w (λ s y. s ≡ r) wide narrow wide' narrow'
+  attempted_offer : {wide' narrow' : List ℕ} → Offer x new r 0 wide narrow wide' narrow' → Attempted Q u w (λ s y. s ≡ r) wide narrow wide' narrow'
   attempted_offer (declined n a b) =
       subst₂ (λ y z. Attempted Q u w (λ s y. s ≡ r) wide narrow y z) (sym a) (sym b) (offered_declined n)
   attempted_offer (taken l h) = offered_taken l h
 
-at_row : (Q : Turn) {x : Row} (r : ℕ) (P : Row → Type 0) {s : ℕ} → x ≡ ridden Q r → s ≡ r → P (ridden Q s) → P x
-at_row Q r P ex e h = subst P (ap (ridden Q) e ∙ sym ex) h
-
--- a row whose tail, read alone, is another node
-pub attempt_elsewhere : {Q : Turn} {u : ℕ} {w : Weight} {r : ℕ} (wide narrow : List ℕ) {t : ℕ} → t ≡ tail_read Q.roads.tails Q.shortcuts.tails r
-    → (t ≡ u → ⊥) → Attempted Q u w (λ s y. s ≡ r) wide narrow wide narrow
-attempt_elsewhere {Q} {u} {r = r} wide narrow et n =
-    attempted_none (λ s y e a. n (et ∙ tail_read_row Q.roads Q.shortcuts r ∙ at_row Q r (λ z. z.tail ≡ u) refl e a.leaves))
-
 -- what becomes of the row x, which is row r, tried from u
 module _ {Q : Turn} {u : ℕ} {w : Weight} {r : ℕ} (wide narrow : List ℕ) {x : Row} (ex : x ≡ ridden Q r) where
-  -- it is a link
-  pub attempt_link : x.mode ≡ 0 → Attempted Q u w (λ s y. s ≡ r) wide narrow wide narrow
-  attempt_link z = attempted_none (λ s y e a. at_row Q r (λ z. z.mode ≡ 0 → ⊥) ex e a.no_link z)
-
-  -- its tail or its head may be no end of a ride
-  pub attempt_tail_shut : (Open Q.roads.node_ranks Q.node Q.around x.tail → ⊥) → Attempted Q u w (λ s y. s ≡ r) wide narrow wide narrow
-  attempt_tail_shut n = attempted_none (λ s y e a. n (at_row Q r (λ z. Open Q.roads.node_ranks Q.node Q.around z.tail) ex e
-      (subst (λ (z : ℕ). Open Q.roads.node_ranks Q.node Q.around z) (sym a.leaves) a.tail_open)))
-
-  pub attempt_head_shut : (Open Q.roads.node_ranks Q.node Q.around x.head → ⊥) → Attempted Q u w (λ s y. s ≡ r) wide narrow wide narrow
-  attempt_head_shut n = attempted_none (λ s y e a. n (at_row Q r (λ z. Open Q.roads.node_ranks Q.node Q.around z.head) ex e
-      (subst (λ (z : ℕ). Open Q.roads.node_ranks Q.node Q.around z) (sym a.arrives) a.head_open)))
-
   -- it is a ride
   pub attempt_ride : {c new : Weight} {wide' narrow' : List ℕ} {t : ℕ} → Spacious Q (length wide) (length narrow) → r < row_count Q → Addable Q w
       → t ≡ tail_read Q.roads.tails Q.shortcuts.tails r → t ≡ u → (x.mode ≡ 0 → ⊥) → Open Q.roads.node_ranks Q.node Q.around x.tail
       → Open Q.roads.node_ranks Q.node Q.around x.head → c ≡ cost x → Sum w c new
-      → Offer x.head new r wide narrow wide' narrow' → Attempted Q u w (λ s y. s ≡ r) wide narrow wide' narrow'
+      → Offer x.head new r 0 wide narrow wide' narrow' → Attempted Q u w (λ s y. s ≡ r) wide narrow wide' narrow'
   attempt_ride {c} {new} room there light er eu nm ot oh ec sum =
       let et : x.tail ≡ u = ap (λ z. z.tail) ex ∙ sym (er ∙ tail_read_row Q.roads Q.shortcuts r) ∙ eu in
       attempted_offer w wide narrow
@@ -306,9 +213,6 @@ pub record TryingRides (Q : Turn) (u : ℕ) (w : Weight) (wide₀ narrow₀ wide
   pub in_order : r ≤ end
   pub attempted : Attempted Q u w (λ s x. s < r) wide₀ narrow₀ wide narrow
 
-pub rides_start : {Q : Turn} {u : ℕ} {w : Weight} {wide narrow : List ℕ} {end : ℕ} → TryingRides Q u w wide narrow wide narrow end 0
-rides_start = record { in_order = omega arith; attempted = attempted_none (λ r x l. absurd (omega arith)) }
-
 module _ {Q : Turn} {u : ℕ} {w : Weight} {wide₀ narrow₀ wide narrow : List ℕ} {end r : ℕ}
     (t : TryingRides Q u w wide₀ narrow₀ wide narrow end r) where
   pub rides_more : {wide' narrow' : List ℕ} → r < end → Attempted Q u w (λ s x. s ≡ r) wide narrow wide' narrow'
@@ -325,11 +229,6 @@ module _ {Q : Turn} {u : ℕ} {w : Weight} {wide₀ narrow₀ wide narrow : List
       pick : (s : ℕ) → Dec (s < r) → s < r + 1 → (s < r) ⊎ (s ≡ r)
       pick s (yes k) m = inl k
       pick s (no k) m = inr (omega arith)
-
-  pub rides_done : end ≤ r → Attempted Q u w (λ s x. s < end) wide₀ narrow₀ wide narrow
-  rides_done l =
-      let e : r ≡ end = omega (arith, t.in_order) in
-      subst (λ (i : ℕ). Attempted Q u w (λ s x. s < i) wide₀ narrow₀ wide narrow) e t.attempted
 
 -- a node is settled, and then every row is tried from it
 module _ (narrow : List ℕ) {narrow₁ : List ℕ} (u : ℕ) (e : narrow₁ ≡ set narrow (2 * u + 1) (word narrow u / 2 * 2)) where
@@ -350,40 +249,3 @@ module _ (narrow : List ℕ) {narrow₁ : List ℕ} (u : ℕ) (e : narrow₁ ≡
 
     row_same : (v : ℕ) → row_before narrow₁ v ≡ row_before narrow v
     row_same v = omega (arith, but_the_bit v (ℕ_discrete v u))
-
-    pub departed : {w : Weight} {wide' narrow' : List ℕ} → w ≡ label wide narrow u
-        → Attempted Q u w (λ r x. r < row_count Q) wide narrow₁ wide' narrow' → Departed Q u wide narrow wide' narrow'
-    departed {w} {wide'} {narrow'} ew a = record {
-      rest_same = rest_trans (record {
-        wide_size = refl;
-        narrow_size = settled_size;
-        wide_rest = λ i l. refl;
-        narrow_rest = λ i l. there i (λ z. omega arith);
-      }) a.rest_same;
-      relaxed = relax_from
-          (subst (λ x. Attempted Q u x (λ r x. r < row_count Q) wide narrow₁ wide' narrow') ew a).relaxed
-          (λ v l. record {
-            label = weight-≡ refl (there (2 * v) (λ z. omega arith));
-            by_row = row_same v;
-            by_place = ap (λ (x : ℕ). (ridden Q x).tail) (row_same v);
-          });
-      settles = record {
-        hit = a.marks u inside ∙ ap (λ (x : ℕ). x % 2) here ∙ omega arith;
-        miss = λ v l n. a.marks v l ∙ ap (λ (x : ℕ). x % 2) (there (2 * v + 1) (λ z. n (omega arith)));
-      };
-    }
-
--- sizes stay as they are
-pub spacious_at : {Q : Turn} {wl nl wl' nl' : ℕ} → Spacious Q wl nl → wl' ≡ wl → nl' ≡ nl → Spacious Q wl' nl'
-spacious_at {Q} s a b = subst₂ (λ x y. Spacious Q x y) (sym a) (sym b) s
-
-pub fits_spacious : {Q : Turn} {from wl nl : ℕ} → WitnessFits (node_count Q) (row_count Q) from wl nl → Spacious Q wl nl
-fits_spacious f = record {
-  few_nodes = f.few_nodes;
-  wide_enough = f.wide_enough;
-  narrow_enough = f.narrow_enough;
-  few_rows = f.few_rows;
-}
-
-pub addable_at : {Q : Turn} {w w' : Weight} → Addable Q w → w' ≡ w → Addable Q w'
-addable_at {Q} l e = subst (λ x. Addable Q x) (sym e) l

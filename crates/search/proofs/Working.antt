@@ -9,7 +9,7 @@ use Rattle.network.specs.declared.weight.Weight.{Weight}
 use Rattle.network.specs.declared.rows.Row.{Row}
 use Rattle.network.specs.Weight.{◌⊕◌}
 use Rattle.network.specs.Network.{Network, nodes}
-use Rattle.network.specs.Sheet.{Sheet}
+use Rattle.network.specs.declared.sheet.Sheet.{Sheet}
 use Rattle.network.specs.Rows.{row, cost}
 use Rattle.network.proofs.WeightLaws.{◌≼◌, ≼-not_lighter, ≡-≼, ≼_trans, weight-≡}
 use Rattle.search.specs.Graph.{Laws, Same, Better}

@@ -1,13 +1,13 @@
 -- How labels stand in the work rooms: for the place p the time at p of the 64-bit room, and of the 32-bit room the edges at 2p and a word at 2p + 1.
 -- The word holds, from its lowest bit on: 1 bit, whether the place waits; 4 bits, state and phase of the place before; 12 bits, the row that led
 -- here; 13 bits kept free; and 2 bits at the first place of each node, whether the target can be reached from the node by rows that lead down.
-use Rattle.std.specs.Prelude.{◌≡◌, ◌⊎◌, Bool, true, false, List, ℕ, ◌+◌, ◌*◌, ◌/◌, ◌%◌, ◌<◌, length, get_or}
+use Rattle.std.specs.Prelude.{◌≡◌, ◌⊎◌, Bool, true, false, Option, None, Some, List, ℕ, ◌+◌, ◌*◌, ◌/◌, ◌%◌, ◌<◌, length, get_or, set}
 use Rattle.network.specs.declared.weight.Weight.{Weight}
 use Rattle.network.specs.declared.rows.Row.{Row}
 use Rattle.network.specs.Weight.{Lighter}
 use Rattle.network.specs.Order.{Before}
 use Rattle.network.specs.Network.{Network, nodes}
-use Rattle.network.specs.Sheet.{Sheet}
+use Rattle.network.specs.declared.sheet.Sheet.{Sheet}
 use Rattle.network.specs.Rows.{row}
 use Rattle.network.proofs.WeightLaws.{◌≼◌}
 use Rattle.search.specs.Graph.{Graph, Relaxed}
@@ -39,6 +39,17 @@ word_by old r low = old / 131072 * 131072 + (old % 2 + (2 * low + 32 * r))
 -- 1: the target can be reached from node v by rows that lead down; 0: it cannot; else it is not known yet
 abbrev pub hint : List ℕ → ℕ → ℕ
 hint narrow v = word narrow (16 * v) / 1073741824
+
+-- what is known of the target from a hint
+abbrev pub Says : ℕ → Option Bool → Type 0
+Says h (Some true) = h ≡ 1
+Says h (Some false) = h ≡ 0
+Says h None = Unit {0}
+
+-- the hint that says so
+abbrev pub hint_of : Bool → ℕ
+hint_of true = 1
+hint_of false = 0
 
 -- "x is contracted before y", or, in the plain search, where every node is read as core, never
 abbrev pub Falls : Bool → List ℕ → ℕ → ℕ → Type 0
@@ -79,6 +90,17 @@ pub record Worked (plain : Bool) (N : Network) (ss : List Row) (S : Sheet) (from
       (place_before N ss narrow')
   pub marks : (v : ℕ) → v < 16 * nodes N → mark narrow' v ≡ mark narrow v
   pub hinted : Hinted N ss (Falls plain N.node_ranks) to narrow'
+
+-- the numbers of the place p are the label w and this word
+pub record Written (p : ℕ) (w : Weight) (its_word : ℕ) (wide narrow wide' narrow' : List ℕ) : Type 0 where
+  pub wide_set : wide' ≡ set wide p w.time
+  pub narrow_set : narrow' ≡ set (set narrow (2 * p) w.edges) (2 * p + 1) its_word
+
+-- the label `new`, by row r from a place of this state and phase, was offered to the place p
+pub data Offer (p : ℕ) (new : Weight) (r low : ℕ) (wide narrow wide' narrow' : List ℕ) : Type 0 where
+  declined : (Lighter new (label wide narrow p) → ⊥) → wide' ≡ wide → narrow' ≡ narrow → Offer p new r low wide narrow wide' narrow'
+  taken : Lighter new (label wide narrow p) → Written p new (word_by (word narrow p) r low) wide narrow wide' narrow'
+      → Offer p new r low wide narrow wide' narrow'
 
 -- v has the label and the word that it had
 pub record SamePlace (wide narrow wide' narrow' : List ℕ) (v : ℕ) : Type 0 where

@@ -1,7 +1,7 @@
 -- The numbers a search may show before it searches, in 01's order: "1, 11, 2, 3, 4, 10, 5, 6".
 use Rattle.std.specs.Prelude.{List, [], ◌∷◌, ◌++◌, ℕ, ◌*◌, ◌≤◌}
 use Rattle.network.specs.Network.{Network, nodes, Sized}
-use Rattle.network.specs.Sheet.{Sheet}
+use Rattle.network.specs.declared.sheet.Sheet.{Sheet}
 use Rattle.network.specs.Rows.{Columns, RowsSized, table}
 use Rattle.network.specs.Refusal.{Rule, whole_rule, sizes, entries_order, shortcut_rows, sheet_rules, question}
 

@@ -4,7 +4,8 @@ use Rattle.network.specs.declared.weight.Weight.{Weight}
 use Rattle.network.specs.declared.rows.Row.{Row}
 use Rattle.network.specs.Weight.{zero_weight, none_yet, ◌⊕◌}
 use Rattle.network.specs.Network.{Network, nodes}
-use Rattle.network.specs.Sheet.{Sheet, MayRide, MayChange, Initial, Final}
+use Rattle.network.specs.declared.sheet.Sheet.{Sheet}
+use Rattle.network.specs.Sheet.{MayRide, MayChange, Initial, Final}
 use Rattle.network.specs.Rows.{row, rows, cost}
 use Rattle.network.proofs.WeightLaws.{◌≼◌}
 use Rattle.search.specs.Graph.{Graph}

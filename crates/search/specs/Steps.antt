@@ -1,29 +1,42 @@
 -- What the inner functions promise each other.
-use Rattle.std.specs.Prelude.{◌≡◌, Bool, true, false, List, ℕ, ◌+◌, ◌*◌, ◌<◌, ◌≤◌, length, get_or, set}
+use Rattle.std.specs.Prelude.{◌≡◌, Bool, true, false, Option, None, Some, List, ℕ, ◌+◌, ◌*◌, ◌<◌, length, get_or, set}
 use Rattle.network.specs.declared.weight.Weight.{Weight}
 use Rattle.network.specs.declared.rows.Row.{Row}
 use Rattle.network.specs.declared.sheet.State.{State}
 use Rattle.network.specs.Weight.{zero_weight, none_yet, ◌⊕◌, Held, Lighter}
 use Rattle.network.specs.Network.{Network, nodes, Sound}
-use Rattle.network.specs.Sheet.{Sheet, SheetSound, no_state, Bit}
+use Rattle.network.specs.declared.sheet.Sheet.{Sheet}
+use Rattle.network.specs.Sheet.{SheetSound, no_state, Bit}
 use Rattle.network.specs.Rows.{Columns, Even, SoundTable, row, rows, cost, table}
 use Rattle.network.proofs.WeightLaws.{◌≼◌}
 use Rattle.search.specs.Orders.{Roomy}
 use Rattle.search.specs.Graph.{Graph, Greedy, Lightest, Nobody, Unmet, Relaxed, Settles, Begun}
-use Rattle.search.specs.Places.{Homeward, Shift, TargetAt}
+use Rattle.search.specs.Places.{Homeward, Shift}
 use Rattle.search.specs.Labels.{label, word, mark, row_before, place_before, Falls, asked, Hinted}
 use Rattle.search.specs.declared.pick.Choice.{Choice}
 
--- the place p was looked at
-pub data Looked (d : ℕ → Weight) (s : ℕ → ℕ) (p : ℕ) (old r : Choice) : Type 0 where
-  passed_by : s p ≡ 0 → r ≡ old → Looked d s p old r
-  heavier : (Lighter (d p) old.best → ⊥) → r ≡ old → Looked d s p old r
-  taken : (s p ≡ 0 → ⊥) → Lighter (d p) old.best → r.place ≡ p → r.best ≡ d p → Looked d s p old r
+-- the label that a choice so far has, or none
+abbrev pub chosen : Option Choice → Weight
+chosen None = none_yet
+chosen (Some choice) = choice.label
 
--- r is a lightest waiting place that has a label, or `places` where there is none
-pub data Picked (places : ℕ) (d : ℕ → Weight) (s : ℕ → ℕ) (r : ℕ) : Type 0 where
-  nobody : r ≡ places → ((v : ℕ) → v < places → (s v ≡ 0 → ⊥) → none_yet ≼ d v) → Picked places d s r
-  somebody : r < places → (s r ≡ 0 → ⊥) → Lighter (d r) none_yet → ((v : ℕ) → v < places → (s v ≡ 0 → ⊥) → d r ≼ d v) → Picked places d s r
+-- the place p was looked at
+pub data Looked (d : ℕ → Weight) (s : ℕ → ℕ) (p : ℕ) (so_far r : Option Choice) : Type 0 where
+  passed_by : s p ≡ 0 → r ≡ so_far → Looked d s p so_far r
+  heavier : (Lighter (d p) (chosen so_far) → ⊥) → r ≡ so_far → Looked d s p so_far r
+  taken : (s p ≡ 0 → ⊥) → Lighter (d p) (chosen so_far) → r ≡ Some (record { place = p; label = d p }) → Looked d s p so_far r
+
+-- u is a lightest of the first places that wait and have a label
+pub record Foremost (places : ℕ) (d : ℕ → Weight) (s : ℕ → ℕ) (u : ℕ) : Type 0 where
+  pub inside : u < places
+  pub waits : s u ≡ 0 → ⊥
+  pub labelled : Lighter (d u) none_yet
+  pub least : (v : ℕ) → v < places → (s v ≡ 0 → ⊥) → d u ≼ d v
+
+-- such a place is picked; none where no place that waits has a label
+abbrev pub Picked : ℕ → (ℕ → Weight) → (ℕ → ℕ) → Option ℕ → Type 0
+Picked places d s None = (v : ℕ) → v < places → (s v ≡ 0 → ⊥) → none_yet ≼ d v
+Picked places d s (Some u) = Foremost places d s u
 
 -- v is the place of the state j, which the next byte has; base is the place of state 0
 pub record ToState (base next j v : ℕ) : Type 0 where
@@ -93,22 +106,31 @@ pub record Begins (plain : Bool) (N : Network) (ss : List Row) (S : Sheet) (from
   pub begun : Begun (asked plain N ss S from to) (label wide' narrow') (mark narrow')
   pub hinted : Hinted N ss (Falls plain N.node_ranks) to narrow'
 
--- a search has ended, at the place r of a target, or nowhere
-pub data Ended (G : Graph) (d : ℕ → G.Label) (s pr pp : ℕ → ℕ) (r : ℕ) : Type 0 where
-  nowhere : {k : ℕ} → G.places ≤ r → Greedy G d s pr pp k → Unmet G s → Nobody G d s → Ended G d s pr pp r
-  arrived : {k : ℕ} → Greedy G d s pr pp k → Unmet G s → Lightest G d s r → G.Target r → Ended G d s pr pp r
+-- a search has left every place that it could reach, and none was a target
+pub record Nowhere (G : Graph) (d : ℕ → G.Label) (s pr pp : ℕ → ℕ) : Type 0 where
+  pub settled : ℕ
+  pub greedy : Greedy G d s pr pp settled
+  pub unmet : Unmet G s
+  pub nobody : Nobody G d s
+
+-- the next place that a search would leave is the first target
+pub record Arrived (G : Graph) (d : ℕ → G.Label) (s pr pp : ℕ → ℕ) (u : ℕ) : Type 0 where
+  pub settled : ℕ
+  pub greedy : Greedy G d s pr pp settled
+  pub unmet : Unmet G s
+  pub lightest : Lightest G d s u
+  pub target : G.Target u
+
+-- a search has ended, at the place of a target, or nowhere
+abbrev pub Ended : (G : Graph) (d : ℕ → G.Label) (s pr pp : ℕ → ℕ) → Option ℕ → Type 0
+Ended G d s pr pp None = Nowhere G d s pr pp
+Ended G d s pr pp (Some u) = Arrived G d s pr pp u
 
 -- the rooms where a search has ended
-pub record Ran (plain : Bool) (N : Network) (ss : List Row) (S : Sheet) (from to : ℕ) (wide narrow wide' narrow' : List ℕ) (r : ℕ) : Type 0 where
+pub record Ran (plain : Bool) (N : Network) (ss : List Row) (S : Sheet) (from to : ℕ) (wide narrow wide' narrow' : List ℕ) (r : Option ℕ) : Type 0 where
   pub wide_size : length wide' ≡ length wide
   pub narrow_size : length narrow' ≡ length narrow
   pub ended : Ended (asked plain N ss S from to) (label wide' narrow') (mark narrow') (row_before narrow') (place_before N ss narrow') r
-
--- whether a search is over at the place u
-pub data Over (S : Sheet) (places to u : ℕ) (b : Bool) : Type 0 where
-  none_left : b ≡ true → places ≤ u → Over S places to u b
-  target : b ≡ true → u < places → TargetAt S to u → Over S places to u b
-  goes_on : b ≡ false → u < places → (TargetAt S to u → ⊥) → Over S places to u b
 
 -- the place of the state q at the node `from` was labelled with zero, if the state is initial, and nothing else was changed
 pub data Started (sheet : List State) (from q : ℕ) (wide narrow wide' narrow' : List ℕ) : Type 0 where

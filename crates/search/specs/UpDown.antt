@@ -3,7 +3,7 @@ use Rattle.std.specs.Prelude.{List, [], ◌∷◌, ℕ}
 use Rattle.network.specs.declared.rows.Row.{Row}
 use Rattle.network.specs.Order.{Before}
 use Rattle.network.specs.Network.{Network}
-use Rattle.network.specs.Sheet.{Sheet}
+use Rattle.network.specs.declared.sheet.Sheet.{Sheet}
 use Rattle.network.specs.Rows.{row}
 use Rattle.network.specs.Journey.{Journey}
 

@@ -5,10 +5,12 @@ use Rattle.network.specs.declared.weight.Weight.{Weight}
 use Rattle.network.specs.declared.rows.Row.{Row}
 use Rattle.network.specs.Weight.{zero_weight, none_yet, ◌⊕◌, Lighter}
 use Rattle.network.specs.Order.{Before}
-use Rattle.network.specs.Network.{Network, network, edges}
-use Rattle.network.specs.Rows.{Columns, columns, cost}
+use Rattle.network.specs.Lent.{network_of, columns_of}
+use Rattle.network.specs.Network.{Network, edges}
+use Rattle.network.specs.Rows.{Columns, cost}
 use Rattle.network.specs.Answers.{row_read}
 use Rattle.columns.specs.Rooms.{Untouched}
+use Rattle.search.specs.declared.witness.Turn as asked
 
 -- What a search is asked of: the columns as they are lent, whatever they hold, the node whose turn it is, and whether paths must avoid it.
 pub record Turn : Type 0 where
@@ -17,15 +19,8 @@ pub record Turn : Type 0 where
   pub node : ℕ
   pub around : Bool
 
--- the columns in the order in which every function takes them
-abbrev pub turn_of : (node_ranks tails heads modes lengths shortcut_tails shortcut_heads shortcut_modes shortcut_lengths shortcut_counts
-    shortcut_firsts shortcut_seconds : List ℕ) → ℕ → Bool → Turn
-turn_of node_ranks tails heads modes lengths a b c d e f g v around = record {
-  roads = network [] node_ranks tails heads modes lengths;
-  shortcuts = columns a b c d e f g;
-  node = v;
-  around = around;
-}
+abbrev pub turn_of : asked.Turn → Turn
+turn_of t = record { roads = network_of t.network; shortcuts = columns_of t.shortcuts; node = t.node; around = t.around }
 
 -- how many nodes and rows there are
 abbrev pub node_count : Turn → ℕ

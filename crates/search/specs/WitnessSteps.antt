@@ -1,11 +1,11 @@
 -- What the inner functions of the witness search promise each other.
-use Rattle.std.specs.Prelude.{◌≡◌, Bool, true, false, List, ℕ, ◌+◌, ◌*◌, ◌%◌, ◌<◌, ◌≤◌, set}
+use Rattle.std.specs.Prelude.{◌≡◌, List, ℕ, ◌*◌, ◌%◌, ◌<◌, ◌≤◌}
 use Rattle.network.specs.declared.weight.Weight.{Weight}
 use Rattle.network.specs.Weight.{zero_weight, none_yet, ◌⊕◌, Held, Lighter}
 use Rattle.network.specs.Rows.{cost}
 use Rattle.network.proofs.WeightLaws.{◌≼◌}
 use Rattle.search.specs.Graph.{Graph, Greedy, Lightest, Nobody, Relaxed, Settles}
-use Rattle.search.specs.Labels.{label, word, mark, row_before, word_by}
+use Rattle.search.specs.Labels.{label, word, mark, row_before}
 use Rattle.search.specs.Witness.{Turn, node_count, row_count, ridden, Ride, RestSame}
 
 -- the graph of the rides, from the places of Start
@@ -42,11 +42,6 @@ pub record Narrow (Q : Turn) : Type 0 where
 pub record Addable (Q : Turn) (w : Weight) : Type 0 where
   pub each : (r : ℕ) → Held (w ⊕ cost (ridden Q r))
 
--- the numbers of the place p are the label w and this word
-pub record Written (p : ℕ) (w : Weight) (its_word : ℕ) (wide narrow wide' narrow' : List ℕ) : Type 0 where
-  pub wide_set : wide' ≡ set wide p w.time
-  pub narrow_set : narrow' ≡ set (set narrow (2 * p) w.edges) (2 * p + 1) its_word
-
 -- a pass over the first n places: R tells the label and the word after from those before
 pub record Passed (R : Weight → ℕ → Weight → ℕ → Type 0) (n : ℕ) (wide narrow wide' narrow' : List ℕ) : Type 0 where
   pub rest_same : RestSame n wide narrow wide' narrow'
@@ -81,12 +76,6 @@ pub record Opened (nodes from : ℕ) (wide narrow wide' narrow' : List ℕ) : Ty
   pub elsewhere : (v : ℕ) → v < nodes → (v ≡ from → ⊥) → label wide' narrow' v ≡ none_yet
   pub all_wait : (v : ℕ) → v < nodes → mark narrow' v ≡ 0 → ⊥
 
--- the label `new`, by the row r, was offered to the place p
-pub data Offer (p : ℕ) (new : Weight) (r : ℕ) (wide narrow wide' narrow' : List ℕ) : Type 0 where
-  declined : (Lighter new (label wide narrow p) → ⊥) → wide' ≡ wide → narrow' ≡ narrow → Offer p new r wide narrow wide' narrow'
-  taken : Lighter new (label wide narrow p) → Written p new (word_by (word narrow p) r 0) wide narrow wide' narrow'
-      → Offer p new r wide narrow wide' narrow'
-
 -- the rooms where rides that leave the node u, labelled w, have been tried: those of which `Tried row head` holds
 pub record Attempted (Q : Turn) (u : ℕ) (w : Weight) (Tried : ℕ → ℕ → Type 0) (wide narrow wide' narrow' : List ℕ) : Type 0 where
   pub rest_same : RestSame (node_count Q) wide narrow wide' narrow'
@@ -101,13 +90,7 @@ pub record Departed (Q : Turn) (u : ℕ) (wide narrow wide' narrow' : List ℕ) 
       (row_before narrow) (row_before narrow') (node_before Q narrow) (node_before Q narrow')
   pub settles : Settles (all_rides Q) u (mark narrow) (mark narrow')
 
--- whether the search is over at the place u: none is left, or it is heavier than the bound
-pub data Past (places : ℕ) (bound : Weight) (d : ℕ → Weight) (u : ℕ) (b : Bool) : Type 0 where
-  none_left : b ≡ true → places ≤ u → Past places bound d u b
-  too_heavy : b ≡ true → u < places → Lighter bound (d u) → Past places bound d u b
-  goes_on : b ≡ false → u < places → (Lighter bound (d u) → ⊥) → Past places bound d u b
-
--- why it was over
+-- why a search was over
 pub data Halted (Q : Turn) (from : ℕ) (bound : Weight) (d : ℕ → Weight) (s : ℕ → ℕ) : Type 0 where
   all_found : Nobody (rides_from Q from) d s → Halted Q from bound d s
   too_far : {u : ℕ} → Lightest (rides_from Q from) d s u → Lighter bound (d u) → Halted Q from bound d s

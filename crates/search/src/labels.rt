@@ -1,26 +1,38 @@
 // How labels stand in the work rooms: the one file that knows. specs/Labels says the same to the proofs.
+// The rooms go side by side, as they are lent: a struct of both would have every contract say that its fields are still the caller's.
 ghost use Rattle.std.specs.Prelude.{◌≡◌, ◌+◌, ◌*◌, ◌/◌, ◌%◌, ◌<◌, ◌≤◌, length, get_or, set};
-ghost use Rattle.search.specs.Labels.{label, word, mark, row_before, word_by};
+ghost use Rattle.network.specs.Answers.{Decides};
+ghost use Rattle.search.specs.Labels.{label, word, mark, row_before, word_by, Written};
 
-use columns::{at32, at64, put32, put64};
+use columns::{at, put};
 use network::weight::Weight;
+
+// The last step to a place: the label that it gives, its row, and state and phase of the place before.
+#[derive(Clone, Copy)]
+pub(crate) struct Step {
+    pub label: Weight,
+    pub row: usize,
+    pub low: usize,
+    ghost row_fits: { row < 4096 },
+    ghost low_fits: { low < 16 },
+}
 
 pub(crate) fn label_at(wide: &[u64], narrow: &[u32], p: usize) -> Weight
     requires { p < 8192 }
     ensures { result ≡ label wide.now narrow.now p }
 {
     Weight {
-        time: at64(wide, p),
-        edges: at32(narrow, 2 * p),
+        time: at(wide, p),
+        edges: at(narrow, 2 * p),
     }
 }
 
-// 1 while the place waits, 0 once it is settled.
-pub(crate) fn mark_at(narrow: &[u32], p: usize) -> u32
+// Whether the place waits: it is not settled.
+pub(crate) fn waits(narrow: &[u32], p: usize) -> bool
     requires { p < 8192 }
-    ensures { result ≡ mark narrow.now p }
+    ensures { Decides result (mark narrow.now p ≡ 1) }
 {
-    at32(narrow, 2 * p + 1) % 2
+    at(narrow, 2 * p + 1) % 2 == 1
 }
 
 // The row that led to the place.
@@ -28,7 +40,7 @@ pub(crate) fn row_before(narrow: &[u32], p: usize) -> usize
     requires { p < 8192 }
     ensures { result ≡ row_before narrow.now p }
 {
-    (at32(narrow, 2 * p + 1) / 32 % 4096) as usize
+    (at(narrow, 2 * p + 1) / 32 % 4096) as usize
 }
 
 // State and phase of the place from which it led.
@@ -36,7 +48,7 @@ pub(crate) fn low_before(narrow: &[u32], p: usize) -> usize
     requires { p < 8192 }
     ensures { result ≡ word narrow.now p / 2 % 16 }
 {
-    (at32(narrow, 2 * p + 1) / 2 % 16) as usize
+    (at(narrow, 2 * p + 1) / 2 % 16) as usize
 }
 
 // The place waits no longer.
@@ -44,29 +56,32 @@ pub(crate) fn settle(narrow: &mut [u32], p: usize)
     requires { p < 8192 }
     ensures { narrow.new ≡ set narrow.old (2 * p + 1) (word narrow.old p / 2 * 2) }
 {
-    let word = at32(narrow, 2 * p + 1);
-    put32(narrow, 2 * p + 1, word / 2 * 2);
+    let word = at(narrow, 2 * p + 1);
+    put(narrow, 2 * p + 1, word / 2 * 2);
 }
 
-// A new label for the place p: by row r, from a place of this state and phase.
-pub(crate) fn improve(
-    wide: &mut [u64],
-    narrow: &mut [u32],
-    p: usize,
-    w: Weight,
-    r: usize,
-    low: usize,
-)
-    requires { (p < 8192) × (r < 4096) × (low < 16) }
-    ensures wide_after { wide.new ≡ set wide.old p w.time }
-    ensures narrow_after { narrow.new ≡ set (set narrow.old (2 * p) w.edges) (2 * p + 1) (word_by (word narrow.old p) r low) }
+// Writes the numbers of the place p: a label and a word.
+pub(crate) fn write(wide: &mut [u64], narrow: &mut [u32], p: usize, label: Weight, word: u32)
+    requires { p < 8192 }
+    ensures { Written p label word wide.old narrow.old wide.new narrow.new }
 {
-    let word = at32(narrow, 2 * p + 1);
-    put64(wide, p, w.time);
-    put32(narrow, 2 * p, w.edges);
-    put32(
+    put(wide, p, label.time);
+    put(narrow, 2 * p, label.edges);
+    put(narrow, 2 * p + 1, word);
+}
+
+// The place p is reached anew, by this step.
+pub(crate) fn improve(wide: &mut [u64], narrow: &mut [u32], p: usize, step: Step)
+    requires { p < 8192 }
+    ensures { Written p step.label (word_by (word narrow.old p) step.row step.low) wide.old narrow.old wide.new narrow.new }
+{
+    let word = at(narrow, 2 * p + 1);
+    let by = (2 * step.low + 32 * step.row) as u32;
+    write(
+        wide,
         narrow,
-        2 * p + 1,
-        word / 131072 * 131072 + (word % 2 + (2 * low + 32 * r) as u32),
+        p,
+        step.label,
+        word / 131072 * 131072 + (word % 2 + by),
     );
 }

@@ -9,6 +9,8 @@ mod legs;
 mod moves;
 mod pick;
 pub mod plain;
+mod question;
+pub mod room;
 pub mod rows;
 pub mod witness;
 

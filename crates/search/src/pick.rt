@@ -3,45 +3,39 @@ ghost use Rattle.std.specs.Prelude.{◌<◌, ◌≤◌};
 ghost use Rattle.search.specs.Labels.{label, mark};
 ghost use Rattle.search.specs.Steps.{Looked, Picked};
 
-use crate::labels::{label_at, mark_at};
+use crate::labels::{label_at, waits};
 use network::weight::Weight;
 
-// A waiting place and its label; past the last place and NONE where there is none.
+// A waiting place and its label.
 #[derive(Clone, Copy)]
-pub struct Choice {
-    pub place: usize,
-    pub best: Weight,
+struct Choice {
+    place: usize,
+    label: Weight,
 }
 
-// Looks at the place p.
-fn look(wide: &[u64], narrow: &[u32], p: usize, old: Choice) -> Choice
+// The choice so far, or the place p where it waits and is lighter.
+fn look(wide: &[u64], narrow: &[u32], p: usize, so_far: Option<Choice>) -> Option<Choice>
     requires { p < 8192 }
-    ensures { Looked (label wide.now narrow.now) (mark narrow.now) p old result }
+    ensures { Looked (label wide.now narrow.now) (mark narrow.now) p so_far result }
 {
-    if mark_at(narrow, p) == 0 {
-        return old;
+    if !waits(narrow, p) {
+        return so_far;
     }
-    let best = old.best;
-    let w = label_at(wide, narrow, p);
-    if w.lighter(best) {
-        return Choice { place: p, best: w };
+    let label = label_at(wide, narrow, p);
+    if label.lighter(so_far.map_or(Weight::NONE, |choice| choice.label)) {
+        return Some(Choice { place: p, label });
     }
-    old
+    so_far
 }
 
-// A lightest waiting place that has a label, or how many places there are.
-pub(crate) fn pick(wide: &[u64], narrow: &[u32], places: usize) -> usize
+// A lightest waiting place that has a label.
+pub(crate) fn pick(wide: &[u64], narrow: &[u32], places: usize) -> Option<usize>
     requires { places ≤ 8192 }
     ensures { Picked places (label wide.now narrow.now) (mark narrow.now) result }
 {
-    let mut choice = Choice {
-        place: places,
-        best: Weight::NONE,
-    };
-    let mut p = 0;
-    while p < places {
-        choice = look(wide, narrow, p, choice);
-        p += 1;
+    let mut so_far = None;
+    for p in 0..places {
+        so_far = look(wide, narrow, p, so_far);
     }
-    choice.place
+    so_far.map(|choice| choice.place)
 }

@@ -1,10 +1,9 @@
-// Numbers, sheets and columns out of the stored bytes.
-use columns::{at8, put8, put16};
-use network::sheet::State;
-use records::reader::word_of;
+// The sizes and the columns of a stored network.
+ghost use Rattle.std.specs.Prelude.{◌*◌, ◌≤◌};
 
-// No place of the input is as far.
-pub(crate) const FAR: usize = 65536;
+use crate::place::Place;
+use columns::{Entry, put};
+use network::lent::Network;
 
 // How much of everything a stored network has.
 #[derive(Clone, Copy)]
@@ -15,90 +14,92 @@ pub struct Sizes {
     pub questions: u8,
 }
 
-pub(crate) fn word_at(input: &[u8], at: usize) -> u16 {
-    let place = at % FAR;
-    word_of(at8(input, place), at8(input, place + 1))
-}
+// How many bytes they take.
+pub const SIZES_BYTES: u32 = 7;
 
-pub(crate) fn sizes_at(input: &[u8], at: usize) -> Sizes {
-    let place = at % FAR;
-    Sizes {
-        nodes: word_at(input, place),
-        edges: word_at(input, place + 2),
-        lent: word_at(input, place + 4),
-        questions: at8(input, place + 6),
+impl Sizes {
+    pub fn load(at: Place) -> Sizes {
+        Sizes {
+            nodes: at.word(),
+            edges: at.behind(2).word(),
+            lent: at.behind(4).word(),
+            questions: at.byte(6),
+        }
+    }
+
+    // How many bytes the columns take.
+    pub fn columns_bytes(self) -> u32
+        ensures { result ≤ 10 * 65535 }
+    {
+        3 * u32::from(self.nodes) + 7 * u32::from(self.edges)
     }
 }
 
-fn state_at(input: &[u8], at: usize) -> State {
-    let place = at % FAR;
-    State {
-        modes: at8(input, place),
-        next: at8(input, place + 1),
-        ends: at8(input, place + 2),
+// An entry of a column, as it is stored: the one numbered i of those from a place on.
+trait Stored: Entry {
+    fn load(from: Place, i: u16) -> Self;
+}
+
+impl Stored for u8 {
+    fn load(from: Place, i: u16) -> u8 {
+        from.byte(i)
     }
 }
 
-pub(crate) fn sheet_at(input: &[u8], at: usize) -> [State; 8] {
-    let place = at % FAR;
-    [
-        state_at(input, place),
-        state_at(input, place + 3),
-        state_at(input, place + 6),
-        state_at(input, place + 9),
-        state_at(input, place + 12),
-        state_at(input, place + 15),
-        state_at(input, place + 18),
-        state_at(input, place + 21),
-    ]
-}
-
-// The n entries of one byte that stand at `at`.
-fn load8(column: &mut [u8], input: &[u8], at: usize, n: u16) {
-    let place = at % FAR;
-    let mut i = 0u16;
-    while i < n {
-        put8(column, i as usize, at8(input, place + i as usize));
-        i += 1;
+impl Stored for u16 {
+    fn load(from: Place, i: u16) -> u16 {
+        from.behind(2 * u32::from(i)).word()
     }
 }
 
-// The n entries of two bytes that stand at `at`.
-fn load16(column: &mut [u16], input: &[u8], at: usize, n: u16) {
-    let place = at % FAR;
-    let mut i = 0u16;
-    while i < n {
-        put16(column, i as usize, word_at(input, place + 2 * i as usize));
-        i += 1;
+// The n entries of a column. Those that it has no place for are passed over.
+fn load<T: Stored>(column: &mut [T], from: Place, n: u16) {
+    for i in 0..n {
+        put(column, i.into(), T::load(from, i));
     }
 }
 
-// The columns of the nodes, which stand at `at`.
-pub(crate) fn load_nodes(
-    node_modes: &mut [u8; 513],
-    node_ranks: &mut [u16; 513],
-    input: &[u8],
-    at: usize,
-    nodes: u16,
-) {
-    let place = at % FAR;
-    load8(node_modes, input, place, nodes);
-    load16(node_ranks, input, place + nodes as usize, nodes);
+// A network's columns, with a place for one node too many.
+#[derive(Drop)]
+pub struct Columns {
+    node_modes: [u8; 513],
+    node_ranks: [u16; 513],
+    tails: [u16; 2048],
+    heads: [u16; 2048],
+    modes: [u8; 2048],
+    lengths: [u16; 2048],
 }
 
-// The columns of the edges, which stand at `at`.
-pub(crate) fn load_edges(
-    tails: &mut [u16; 2048],
-    heads: &mut [u16; 2048],
-    modes: &mut [u8; 2048],
-    lengths: &mut [u16; 2048],
-    input: &[u8],
-    at: usize,
-    edges: u16,
-) {
-    let place = at % FAR;
-    load16(tails, input, place, edges);
-    load16(heads, input, place + 2 * edges as usize, edges);
-    load8(modes, input, place + 4 * edges as usize, edges);
-    load16(lengths, input, place + 5 * edges as usize, edges);
+impl Columns {
+    // From their place on, one behind the other.
+    pub fn load(at: Place, nodes: u16, edges: u16) -> Columns {
+        let mut columns = Columns {
+            node_modes: [0; 513],
+            node_ranks: [0; 513],
+            tails: [0; 2048],
+            heads: [0; 2048],
+            modes: [0; 2048],
+            lengths: [0; 2048],
+        };
+        load(&mut columns.node_modes, at, nodes);
+        load(&mut columns.node_ranks, at.behind(nodes.into()), nodes);
+        let at = at.behind(3 * u32::from(nodes));
+        let each = u32::from(edges);
+        load(&mut columns.tails, at, edges);
+        load(&mut columns.heads, at.behind(2 * each), edges);
+        load(&mut columns.modes, at.behind(4 * each), edges);
+        load(&mut columns.lengths, at.behind(5 * each), edges);
+        columns
+    }
+
+    pub fn read(&self) -> Network<'_> {
+        Network {
+            node_modes: &self.node_modes,
+            node_ranks: &self.node_ranks,
+            tails: &self.tails,
+            heads: &self.heads,
+            modes: &self.modes,
+            lengths: &self.lengths,
+        }
+    }
 }

@@ -8,32 +8,16 @@
 #![tactic(auto)]
 
 mod asking;
-mod fronts;
+mod cases;
 mod loading;
-mod preparing;
+mod place;
+mod rooms;
 mod show;
-mod stored;
 
-ghost use Rattle.std.specs.Prelude.{◌≤◌, length};
-
-use std::io::Read;
-
-// Reads until the room is full, the input ends or a read fails. How many bytes came.
-fn read_full(stdin: &mut impl Read, input: &mut [u8]) -> usize
-    ensures { result ≤ length input.new }
-{
-    let mut done = 0;
-    while done < input.len() {
-        match stdin.read(&mut input[done..]) {
-            Ok(0) | Err(_) => return done,
-            Ok(n) => done += n,
-        }
-    }
-    done
-}
+use stored::read_full;
 
 fn main(rt: HostRuntime) {
-    let mut input = [0u8; 65536];
-    let n = read_full(&mut rt.stdin(), &mut input);
-    stored::run(&rt.stdout(), &input, n);
+    let mut room = [0; 65536];
+    let n = read_full(&mut rt.stdin(), &mut room);
+    cases::run(&rt.stdout(), &room[..n]);
 }

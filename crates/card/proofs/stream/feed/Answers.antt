@@ -1,12 +1,9 @@
 -- `card::stream::feed` takes one byte. Assumes nothing.
-use mathlib.Core.Path.{refl}
-use Rattle.network.proofs.Scanning.{decided_true, decided_false}
-use Rattle.card.specs.Reading.{misplaced}
-use Rattle.card.proofs.ReadingSteps.{byte_taken}
+use mathlib.Core.Path.{◌≡◌}
+use Rattle.records.specs.declared.reader.Stage.TheVariants.{Over}
+use Rattle.card.specs.Reading.{held}
 use Rattle.card.proofs.stream.feed.Goals as goal
 
-pub returns-then-misplaced : goal.returns-then-misplaced
-returns-then-misplaced c = misplaced c.if-reader-eq-OVER.false (decided_true c.misplaced.ensures c.if-misplaced.true) c.refuse.ensures refl
-
-pub returns : goal.returns
-returns c = byte_taken c.if-reader-eq-OVER.false (decided_false c.misplaced.ensures c.if-misplaced.false) c.hold-next.ensures c.record_size.ensures c.if-next-record_size.false c.take_record.ensures
+pub returns-clause-fed : goal.returns-clause-fed
+returns-clause-fed c =
+    held (λ (e : c.args.reader.stage ≡ Over). let h = rw e at c.if-eq.ensures in cc) c.if-misplaced.ensures (rw c.hold.ensures at c.take_held.ensures.held)

@@ -1,13 +1,12 @@
--- `card::stream::take_record` takes a record by its kind. Assumes nothing.
+-- `card::stream::take_record` takes a record of each kind. Assumes nothing.
 use mathlib.Core.Path.{refl}
-use Rattle.network.proofs.Scanning.{decided_true, decided_false}
-use Rattle.network.specs.Network.{network}
-use Rattle.card.specs.Reading.{of_network, other}
-use Rattle.card.proofs.ReadingSteps.{simply_roomed}
 use Rattle.card.proofs.stream.take_record.Goals as goal
 
-pub returns-then-of_network : goal.returns-then-of_network
-returns-then-of_network c = of_network (decided_true c.of_network.ensures c.if-of_network.true) c.take_network_record.ensures refl
+pub returns-in-Node-clause-taken : goal.returns-in-Node-clause-taken
+returns-in-Node-clause-taken c = rw c.in-Node.is c.take_node.ensures.taken
 
-pub returns : goal.returns
-returns c = other (decided_false c.of_network.ensures c.if-of_network.false) c.if-kind-eq-QUESTION.false (simply_roomed (network c.args.node_modes.now c.args.node_ranks.now c.args.tails.now c.args.heads.now c.args.modes.now c.args.lengths.now) c.shorter-node_room.ensures c.shorter-edge_room.ensures c.shorter.ensures c.shorter-2.ensures c.take_simply.ensures) refl refl refl refl refl
+pub returns-in-Edge-clause-taken : goal.returns-in-Edge-clause-taken
+returns-in-Edge-clause-taken c = rw c.in-Edge.is c.take_edge.ensures.taken
+
+pub returns-in-State-clause-taken : goal.returns-in-State-clause-taken
+returns-in-State-clause-taken c = rw c.in-State.is (c.take_state.ensures, refl)

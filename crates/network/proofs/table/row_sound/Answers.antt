@@ -1,13 +1,10 @@
 -- `network::table::row_sound` tells whether a shortcut row is sound. Assumes nothing.
 use native.Mathlib.Omega.{arith}
-use Rattle.network.proofs.RowLaws.{first_not_lower, second_not_lower, sound_by_joins}
+use Rattle.network.proofs.RowLaws.{both_lower, sound_by_joins}
 use Rattle.network.proofs.table.row_sound.Goals as goal
 
 pub returns-then-r-first : goal.returns-then-r-first
-returns-then-r-first c = first_not_lower _ _ c.requires _ c.row_at-x.ensures c.if-r-first.true
-
-pub returns-then-r-second : goal.returns-then-r-second
-returns-then-r-second c = second_not_lower _ _ c.requires _ c.row_at-x.ensures c.if-r-second.true
+returns-then-r-first c s = let lower = both_lower _ _ c.requires _ c.row_at-x.ensures s in omega (arith, lower.0, lower.1)
 
 pub returns : goal.returns
 returns c = sound_by_joins _ _ c.requires _ c.row_at-x.ensures c.joins.result (omega arith) (omega arith) c.row_at-a.ensures c.row_at-b.ensures c.joins.ensures

@@ -7,10 +7,10 @@ pub loop-r-init : goal.loop-r-init
 loop-r-init c = noting_start _ _ _ c.clear_slots.ensures
 
 pub note_row-requires : goal.note_row-requires
-note_row-requires c = (c.requires.sound.sized.few_nodes, omega (arith, c.loop-r-test.true, few_read c.requires))
+note_row-requires c = (c.requires.1.sound.sized.few_nodes, omega (arith, c.loop-r-test.true, few_read c.requires.1))
 
 pub loop-r-preserved : goal.loop-r-preserved
-loop-r-preserved c = noting_more _ _ _ (turn_sized c.requires c.clear_slots.ensures.size) c.loop-r.invariant c.loop-r-test.true c.note_row.ensures
+loop-r-preserved c = noting_more _ _ _ (turn_sized c.requires.1 c.clear_slots.ensures.size) c.loop-r.invariant c.loop-r-test.true c.note_row.ensures
 
 pub returns-clause-neighbours : goal.returns-clause-neighbours
-returns-clause-neighbours c = noting_done _ _ _ (turn_sized c.requires c.clear_slots.ensures.size) c.loop-r.invariant c.loop-r-test.false
+returns-clause-neighbours c = noting_done _ _ _ (turn_sized c.requires.1 c.clear_slots.ensures.size) c.loop-r.invariant c.loop-r-test.false

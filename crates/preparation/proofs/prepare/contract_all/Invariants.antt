@@ -1,15 +1,9 @@
 -- `preparation::prepare::contract_all` goes through all turns. Rests on `Turning`.
-use Prim.Native.Nat.{◌-◌}
-use lib.ListN.{length}
-use Rattle.network.specs.Network.{network}
-use Rattle.network.specs.Rows.{columns}
+use Rattle.network.specs.Lent.{network_of, room_columns, SameRoom}
 use Rattle.preparation.proofs.Turning.{Contracting}
 use Rattle.preparation.proofs.prepare.contract_all.Given as goal
 
 abbrev pub invariant-loop-turns : goal.invariant-loop-turns
 invariant-loop-turns l =
-    Contracting (network l.node_modes l.node_ranks l.tails l.heads l.modes l.lengths) l.limit (columns l.initial.shortcut_tails l.initial.shortcut_heads l.initial.shortcut_modes l.initial.shortcut_lengths l.initial.shortcut_counts l.initial.shortcut_firsts l.initial.shortcut_seconds) (columns l.shortcut_tails l.shortcut_heads l.shortcut_modes l.shortcut_lengths l.shortcut_counts l.shortcut_firsts l.shortcut_seconds) l.initial.wide l.initial.narrow l.wide l.narrow l.at l.begun l.last l.turns
-
-abbrev pub decreases-loop-turns : goal.decreases-loop-turns
-decreases-loop-turns l =
-    length l.node_modes - l.turns
+    (Contracting (network_of l.network) l.limit (room_columns l.initial.shortcuts) (room_columns l.shortcuts) l.initial.wide l.initial.narrow l.wide l.narrow l.made l.last l.turns)
+    × SameRoom l.initial.shortcuts l.shortcuts

@@ -1,11 +1,7 @@
 -- `search::pick::pick` finds a lightest waiting place. Assumes nothing.
-use Prim.Native.Nat.{◌-◌}
 use Rattle.search.specs.Labels.{label, mark}
 use Rattle.search.proofs.Picking.{Looking}
 use Rattle.search.proofs.pick.pick.Given as goal
 
 abbrev pub invariant-loop-p : goal.invariant-loop-p
-invariant-loop-p l = Looking l.places (label l.wide l.narrow) (mark l.narrow) l.choice l.p
-
-abbrev pub decreases-loop-p : goal.decreases-loop-p
-decreases-loop-p l = l.places - l.p
+invariant-loop-p l = Looking l.places (label l.wide l.narrow) (mark l.narrow) l.so_far l.p

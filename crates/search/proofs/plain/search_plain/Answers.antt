@@ -1,16 +1,20 @@
 -- `search::plain::search_plain` answers the question. Assumes nothing.
-use native.Mathlib.Omega.{arith}
 use Rattle.search.proofs.LegLaws.{answered_refused_plain, ran_lent, plain_ready, plain_searched}
 use Rattle.search.proofs.plain.search_plain.Goals as goal
 
-pub returns-then-refused-ne-ANSWERED : goal.returns-then-refused-ne-ANSWERED
-returns-then-refused-ne-ANSWERED c = answered_refused_plain c.refusal-refused.ensures c.if-refused-ne-ANSWERED.true
+pub returns-in-Err : goal.returns-in-Err
+returns-in-Err c = answered_refused_plain c.in-Err.refusal c.in-Err.ensures c.into.ensures
 
-pub run-u-requires : goal.run-u-requires
-run-u-requires c = plain_ready c.refusal-refused.ensures (omega arith)
+pub run-end-requires : goal.run-end-requires
+run-end-requires c = (plain_ready c.in_default.ensures).roomy
+
+pub deliver-told-requires : goal.deliver-told-requires
+deliver-told-requires c = ran_lent (plain_ready c.in_default.ensures) c.run-end.ensures
 
 pub returns : goal.returns
-returns c = plain_searched c.refusal-refused.ensures (omega arith) c.run-u.ensures c.deliver-told.ensures c.clear.ensures
+returns c = plain_searched _ c.in_default.ensures c.run-end.ensures c.deliver-told.ensures c.clear.ensures
 
-pub deliver-told-requires-clause-reach : goal.deliver-told-requires-clause-reach
-deliver-told-requires-clause-reach c = (ran_lent (plain_ready c.refusal-refused.ensures (omega arith)) c.run-u.ensures).1
+pub invariant_of-question : goal.invariant_of-question
+invariant_of-question c =
+    let r = plain_ready c.in_default.ensures in
+    record { accepted = r.table_sound; sheet_sound = r.sheet; from_in = r.from_in; to_in = r.to_in }

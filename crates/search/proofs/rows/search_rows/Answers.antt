@@ -1,17 +1,20 @@
 -- `search::rows::search_rows` answers the question. Assumes nothing.
-use native.Mathlib.Omega.{arith}
-use mathlib.Core.Path.{refl}
 use Rattle.search.proofs.LegLaws.{answered_refused, ran_lent, rows_ready, rows_searched}
 use Rattle.search.proofs.rows.search_rows.Goals as goal
 
-pub returns-then-refused-ne-ANSWERED : goal.returns-then-refused-ne-ANSWERED
-returns-then-refused-ne-ANSWERED c = answered_refused c.refusal-refused.ensures c.if-refused-ne-ANSWERED.true refl
+pub returns-in-Err : goal.returns-in-Err
+returns-in-Err c = answered_refused c.in-Err.refusal c.in-Err.ensures c.into.ensures
 
-pub run-u-requires : goal.run-u-requires
-run-u-requires c = rows_ready c.refusal-refused.ensures (omega arith)
+pub run-end-requires : goal.run-end-requires
+run-end-requires c = (rows_ready c.in_default.ensures).roomy
+
+pub deliver-told-requires : goal.deliver-told-requires
+deliver-told-requires c = ran_lent (rows_ready c.in_default.ensures) c.run-end.ensures
 
 pub returns : goal.returns
-returns c = rows_searched c.refusal-refused.ensures (omega arith) c.run-u.ensures c.deliver-told.ensures c.clear.ensures
+returns c = rows_searched c.in_default.ensures c.run-end.ensures c.deliver-told.ensures c.clear.ensures
 
-pub deliver-told-requires-clause-reach : goal.deliver-told-requires-clause-reach
-deliver-told-requires-clause-reach c = (ran_lent (rows_ready c.refusal-refused.ensures (omega arith)) c.run-u.ensures).1
+pub invariant_of-question : goal.invariant_of-question
+invariant_of-question c =
+    let r = rows_ready c.in_default.ensures in
+    record { accepted = r.table_sound; sheet_sound = r.sheet; from_in = r.from_in; to_in = r.to_in }

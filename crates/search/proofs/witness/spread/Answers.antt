@@ -2,17 +2,21 @@
 use Rattle.search.proofs.WitnessGraph.{spreading_start, turn_addable, turn_again, turn_less, turn_over}
 use Rattle.search.proofs.witness.spread.Goals as goal
 
-pub loop-bound-init : goal.loop-bound-init
-loop-bound-init c = spreading_start _ c.requires.witness_fits c.requires.narrow c.begin.ensures
+pub loop-u-init : goal.loop-u-init
+loop-u-init c = spreading_start _ c.requires.witness_fits c.requires.narrow c.begin.ensures
 
-pub returns-then-over : goal.returns-then-over
-returns-then-over c = turn_over c.requires.witness_fits c.requires.narrow c.loop-bound.invariant c.pick-u.ensures c.over.ensures c.begin.ensures.rest_same c.if-over.true
+pub returns-then-lighter : goal.returns-then-lighter
+returns-then-lighter c =
+    turn_over c.requires.witness_fits c.requires.narrow c.loop-u.invariant c.in-Some.ensures c.begin.ensures.rest_same c.label_at-w.ensures
+    c.if-lighter.ensures
 
 pub leave-requires-clause-addable : goal.leave-requires-clause-addable
-leave-requires-clause-addable c = turn_addable c.requires.witness_fits c.requires.narrow c.loop-bound.invariant c.pick-u.ensures c.over.ensures c.if-over.false
+leave-requires-clause-addable c = turn_addable c.requires.witness_fits c.requires.narrow c.loop-u.invariant c.in-Some.ensures
 
-pub loop-bound-smaller : goal.loop-bound-smaller
-loop-bound-smaller c = turn_less c.requires.witness_fits c.requires.narrow c.loop-bound.invariant c.pick-u.ensures c.over.ensures c.if-over.false c.leave.ensures
+pub loop-u-smaller : goal.loop-u-smaller
+loop-u-smaller c = turn_less c.requires.witness_fits c.requires.narrow c.loop-u.invariant c.in-Some.ensures c.leave.ensures
 
-pub loop-bound-preserved : goal.loop-bound-preserved
-loop-bound-preserved c = turn_again c.requires.witness_fits c.requires.narrow c.loop-bound.invariant c.pick-u.ensures c.over.ensures c.if-over.false c.leave.ensures
+pub loop-u-preserved : goal.loop-u-preserved
+loop-u-preserved c =
+    turn_again c.requires.witness_fits c.requires.narrow c.loop-u.invariant c.in-Some.ensures c.leave.ensures c.label_at-w.ensures
+    (λ h. c.if-lighter.ensures h)

@@ -1,0 +1,2 @@
+-- What becomes of the reader of a stream, and of its line, where the lines are written as they are owed.
+pub mod Telling

@@ -1,6 +1,0 @@
--- `runs::show::rest_blank` is safe and ends: the measure is the number of places that are left. Assumes nothing.
-use Rattle.std.proofs.Common.{◌-◌, length}
-use Rattle.runs.proofs.show.rest_blank.Given as goal
-
-abbrev pub decreases-loop-i : goal.decreases-loop-i
-decreases-loop-i l = length l.journey - l.i

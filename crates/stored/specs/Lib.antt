@@ -1,0 +1,2 @@
+-- What the stored bytes mean.
+pub mod Names

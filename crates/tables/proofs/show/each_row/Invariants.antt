@@ -1,7 +1,0 @@
--- `tables::show::each_row` is safe and ends: the measure is how many rows are left. Nothing has to hold from turn to turn.
--- Assumes nothing.
-use Rattle.std.proofs.Common.{◌-◌}
-use Rattle.tables.proofs.show.each_row.Given as goal
-
-abbrev pub decreases-loop-i : goal.decreases-loop-i
-decreases-loop-i g l = l.lent - l.i
