@@ -18,6 +18,7 @@ pub trait Entry: Copy {
     ghost copies: { (x y : Self) → Self.is_clone x y → y ≡ x };
 }
 
+// The same four times over: `rt ci` takes no impl from a macro.
 impl Entry for u8 {
     ghost zero = { 0 };
 

@@ -67,7 +67,8 @@ fn openable(network: &Network, shortcuts: &Shortcuts, row: u16, room: usize) -> 
         && row_at(network, shortcuts, row as usize).count as usize <= room
 }
 
-// Opens the row into the front of the room and answers how many numbers it wrote; 0, and nothing is written, where it may not be opened.
+// Opens the row into the front of the room and answers how many numbers it wrote; 0, and nothing is written, where it may not be opened. C gets the
+// number as it is, and `OpenedInto` names it.
 pub fn open_into(network: &Network, shortcuts: &Shortcuts, row: u16, room: &mut [u16]) -> usize
     ensures { OpenedInto (network_of network.now) (columns_of shortcuts.now) row room.old result room.new }
 {

@@ -110,7 +110,8 @@ impl Pen<'_> {
     }
 }
 
-// A line that does not fit is not begun, so that the room stays as it was.
+// A line that does not fit is not begun, so that the room stays as it was. Its length is 0 then, as `LineWritten` names it: no line
+// is that short. `length legs < 2^32` keeps the sums in range, and a slice with that bound would be opened again at each loop.
 fn write_journey(seconds: u64, count: u32, legs: &[u16], line: &mut [u8]) -> usize
     requires { length legs.now < 4294967296 }
     ensures { LineWritten (journey_line seconds count legs.now) line.old line.new result }

@@ -29,6 +29,14 @@ lighter_trans (sooner h) (shorter e k) = sooner (omega arith)
 lighter_trans (shorter e h) (sooner k) = sooner (omega arith)
 lighter_trans (shorter e h) (shorter f k) = shorter (omega arith) (omega arith)
 
+pub lighter_asym : {a b : Weight} → Lighter a b → Lighter b a → ⊥
+lighter_asym h k = lighter_irrefl (lighter_trans h k)
+
+-- of two weights, by their numbers: what a test that found none of the others knows
+pub not_lighter : {a b : Weight} → b.time ≤ a.time → (a.time ≡ b.time → b.edges ≤ a.edges) → Lighter a b → ⊥
+not_lighter t e (sooner h) = omega arith
+not_lighter t e (shorter f h) = omega (arith, e f)
+
 -- one of three
 pub data Compared (a b : Weight) : Type 0 where
   lighter : Lighter a b → Compared a b
@@ -44,6 +52,14 @@ compare a b = go (dec_lt a.time b.time) (dec_lt b.time a.time) (dec_lt a.edges b
     go (no h) (no k) (yes l) z = lighter (shorter (omega arith) l)
     go (no h) (no k) (no l) (yes m) = heavier (shorter (omega arith) m)
     go (no h) (no k) (no l) (no m) = same (weight-≡ (omega arith) (omega arith))
+
+pub dec_lighter : (a b : Weight) → Dec (Lighter a b)
+dec_lighter a b = go (compare a b)
+  where
+    go : Compared a b → Dec (Lighter a b)
+    go (lighter h) = yes h
+    go (same e) = no (λ h. lighter_irrefl (subst (λ z. Lighter z b) e h))
+    go (heavier h) = no (λ k. lighter_asym h k)
 
 -- two weights of which neither is lighter are one
 pub neither_lighter : {a b : Weight} → (Lighter a b → ⊥) → (Lighter b a → ⊥) → a ≡ b

@@ -1,4 +1,5 @@
 // What a caller lends, column by column: a network, its shortcuts to read, and a room for shortcuts to be written.
+// A network and its shortcuts are two values: the checks, preparation and the plain search have the one without the other.
 ghost use Rattle.std.specs.Prelude.{◌≡◌};
 ghost use Rattle.network.specs.Lent.{network_of, columns_of, room_columns, front_network, front_columns};
 
@@ -27,7 +28,7 @@ pub struct Shortcuts<'a> {
     pub seconds: &'a [u16],
 }
 
-// The same columns, to be written.
+// The same columns, to be written. A struct of its own: no type parameter stands for `&` and `&mut`.
 #[derive(Drop)]
 pub struct ShortcutRoom<'a> {
     pub tails: &'a mut [u16],

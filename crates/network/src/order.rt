@@ -4,7 +4,7 @@ ghost use Rattle.network.specs.Order.{Before};
 
 use columns::at;
 
-// The rank of a node that is never contracted.
+// The rank of a node that is never contracted. A number among the ranks, since a card and C have it in the column with them.
 pub const CORE: u16 = 65535;
 
 // Whether the node x is contracted before the node y: by rank, then by number; core nodes come last, level with each other.

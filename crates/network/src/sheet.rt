@@ -6,6 +6,7 @@ ghost use Rattle.network.specs.Sheet.{StateFine};
 
 use crate::refusal::{Fault, Refusal};
 
+// Bytes, as a card and C give them: `check_sheet` refuses by place what is no state, so that this must be there to be refused.
 #[derive(Clone, Copy, Debug, PartialEq, Eq)]
 pub struct State {
     // Bit i: mode i may be ridden.
@@ -25,7 +26,8 @@ impl State {
     };
 }
 
-// The first `states` of the entries are the sheet's; the rest are not read.
+// The first `states` of the entries are the sheet's; the rest are not read. Any number of states may be given: that there are eight at most stands
+// with the functions behind the test of it.
 #[derive(Clone, Copy, Debug)]
 pub struct Sheet {
     pub entries: [State; 8],

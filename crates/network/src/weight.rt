@@ -13,7 +13,7 @@ impl Weight {
     // The empty path's.
     pub const ZERO: Weight = Weight { time: 0, edges: 0 };
 
-    // Above all others: no path yet.
+    // Above all others: no path yet. No Option: the work rooms hold it as any other weight, and the promises speak of it (`none_yet`).
     pub const NONE: Weight = Weight {
         time: 0xffff_ffff_ffff_ffff,
         edges: 0xffff_ffff,

@@ -75,6 +75,7 @@ pub(crate) fn zero_rows(shortcuts: &mut ShortcutRoom, made: usize)
     ensures holds { Holds (room_columns shortcuts.new) (length shortcuts.old.tails.now) (table (front_columns made (room_columns shortcuts.old))) }
     ensures same_room { SameRoom shortcuts.old shortcuts.new }
 {
+    // Field by field, as `Holds` has it: this is the one place that needs such a row.
     let zero = Row {
         tail: 0,
         head: 0,

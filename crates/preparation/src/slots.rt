@@ -1,5 +1,7 @@
-// How the slots, marks and sums stand in the work rooms: the one file that knows. specs/Preparing says the same to the proofs.
+// How the slots, marks and sums stand in the work rooms. specs/Preparing says the same to the proofs. `neighbours` knows besides that the slots of both
+// sides follow one another, since it clears them in one go.
 // The rooms stay two slices side by side: a struct of two `&mut` would have each function say that both are still the same.
+// `nodes ≤ 512` and `r < 4096` keep the sums in range. A type for either would be opened again at each sum, and is no plainer.
 ghost use Rattle.std.specs.Prelude.{◌≡◌, ◌<◌, ◌≤◌, set};
 ghost use Rattle.network.specs.Answers.{Decides};
 ghost use Rattle.preparation.specs.Noting.{RowAt};

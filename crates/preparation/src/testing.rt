@@ -82,7 +82,8 @@ fn prevails(around: bool, told: Weight, sum: Weight) -> bool
     }
 }
 
-// What the search told of the node w: it tells its weights in front of both rooms.
+// What the search told of the node w: it promises to tell its weights in front of both rooms. How labels stand (`labels::label_at` reads alike) is the
+// search's own.
 fn label_told(wide: &[u64], narrow: &[u32], w: usize) -> Weight
     requires { w < 512 }
     ensures { result ≡ told_at wide.now narrow.now w }

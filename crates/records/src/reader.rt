@@ -204,7 +204,8 @@ pub fn misplaced(reader: Reader, byte: u8) -> bool
     reader.held == 0 && !Kind::try_from(byte).is_ok_and(|kind| reader.stage.awaits(kind))
 }
 
-// How many bytes a record has that begins with this byte; 1 where none does.
+// How many bytes a record has that begins with this byte; 1 where none does: the promises name the number (`size`), so that it stays beside
+// `Kind::size`.
 pub fn record_size(byte: u8) -> usize
     ensures { result ≡ size byte }
 {

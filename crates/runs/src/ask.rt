@@ -38,6 +38,7 @@ fn legs_written(answer: Answer) -> usize {
     0
 }
 
+// The rooms go into the search one by one and come back together: a struct of three `&mut` is given whole or in parts.
 fn plain(stdout: &impl Print, case: Case, network: &Network, rooms: Rooms) {
     let Rooms {
         journey,
@@ -98,7 +99,7 @@ pub fn rows(
     answered(stdout, case.name, "rows", told.answer, told.rows, &rooms);
 }
 
-// Both searches, in rooms of so many places.
+// Both searches, in rooms of so many places. An array must fit a memory: so must those of its callers.
 pub fn both<const JOURNEY: usize, const WIDE: usize, const NARROW: usize>(
     stdout: &impl Print,
     case: Case,

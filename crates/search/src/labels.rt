@@ -1,5 +1,6 @@
 // How labels stand in the work rooms: the one file that knows. specs/Labels says the same to the proofs.
 // The rooms go side by side, as they are lent: a struct of both would have every contract say that its fields are still the caller's.
+// `p < 8192` keeps the sums in range. A type for a place would be opened again at each of them, and is no plainer.
 ghost use Rattle.std.specs.Prelude.{◌≡◌, ◌+◌, ◌*◌, ◌/◌, ◌%◌, ◌<◌, ◌≤◌, length, get_or, set};
 ghost use Rattle.network.specs.Answers.{Decides};
 ghost use Rattle.search.specs.Labels.{label, word, mark, row_before, word_by, Written};

@@ -1,4 +1,5 @@
-// Leaving a place: all rows that leave its node are tried.
+// Leaving a place: all rows that leave its node are tried. `Roomy` and `Hinted` are of the rooms, which stay side by side (`labels`): they have no struct
+// to stand in.
 ghost use Rattle.std.specs.Prelude.{◌*◌, ◌<◌, length, ◌≡◌};
 ghost use Rattle.network.specs.Network.{nodes};
 ghost use Rattle.search.specs.Labels.{label};

@@ -1,6 +1,7 @@
 // The witness search: the least weights from a node over the rides that stand in v's turn, up to a bound.
 // It goes by the plan of `engine` and `leave`, over nodes in place of places; what can be one (pick, offer, the labels) is. The steps between promise
-// other things of other rows, so that one function for both would have two contracts.
+// other things of other rows, so that one function for both would have two contracts. `Spacious` is of the rooms, which stay side by side (`labels`),
+// and `Addable` of a weight that is read from them: neither has a struct to stand in.
 ghost use Rattle.std.specs.Prelude.{◌≡◌, ℕ, ◌+◌, ◌*◌, ◌<◌, ◌≤◌, length, get_or};
 ghost use Rattle.network.specs.Answers.{Decides};
 ghost use Rattle.search.specs.Labels.{label, mark};
@@ -21,7 +22,7 @@ pub struct Turn<'a> {
     pub network: Network<'a>,
     pub shortcuts: Shortcuts<'a>,
     pub node: usize,
-    // A flag, as `Witnessed` has it: it decides one test (`open`), for which a closure would say no more.
+    // A flag, as `Witnessed` has it: it decides one test here (`open`) and one in preparation (`prevails`), and a closure for each would say no more.
     pub around: bool,
 }
 
@@ -165,7 +166,7 @@ fn know_widths(lengths: &[u16], shortcut_lengths: &[u32], shortcut_counts: &[u16
 
 // Tells for every node x, at x of the 64-bit room and at 2x of the 32-bit room, the least weight of the paths from `from` to x over the rides
 // that stand in v's turn, and that avoid v where `around`; NONE where it is heavier than the bound. Answers false, and touches nothing, where
-// the search does not fit.
+// the search does not fit: `Witnessed`, and the theorem that it allows one result only, speak of that answer.
 pub fn witness(
     turn: &Turn,
     from: usize,

@@ -5,9 +5,6 @@ use Rattle.search.proofs.plain.search_plain.Goals as goal
 pub returns-in-Err : goal.returns-in-Err
 returns-in-Err c = answered_refused_plain c.in-Err.refusal c.in-Err.ensures c.into.ensures
 
-pub run-end-requires : goal.run-end-requires
-run-end-requires c = (plain_ready c.in_default.ensures).roomy
-
 pub deliver-told-requires : goal.deliver-told-requires
 deliver-told-requires c = ran_lent (plain_ready c.in_default.ensures) c.run-end.ensures
 

@@ -5,9 +5,6 @@ use Rattle.search.proofs.rows.search_rows.Goals as goal
 pub returns-in-Err : goal.returns-in-Err
 returns-in-Err c = answered_refused c.in-Err.refusal c.in-Err.ensures c.into.ensures
 
-pub run-end-requires : goal.run-end-requires
-run-end-requires c = (rows_ready c.in_default.ensures).roomy
-
 pub deliver-told-requires : goal.deliver-told-requires
 deliver-told-requires c = ran_lent (rows_ready c.in_default.ensures) c.run-end.ensures
 
