@@ -10,7 +10,7 @@ use network::lent::{Network, Shortcuts};
 use records::reader::{Reader, word_of};
 
 // The question at hand about this network and its shortcuts, answered and told.
-// In parts, not as `Lent`: a call that reads one room of it while it writes another gets no proof.
+// In parts, not as `Lent`: `tell` would read its journey while it writes its line, and four forms of that got no proof.
 fn answer_question(
     reader: Reader,
     network: &Network,

@@ -40,7 +40,7 @@ fn put_edge(reader: Reader, network: &mut NetworkRoom)
     put(network.lengths, reader.entered, word_of(bytes[6], bytes[7]));
 }
 
-// So many nodes or edges are in.
+// So many nodes or edges are in. Their counts are kept below `MOST` by the remainder: any reader may be handed in.
 fn enter(reader: Reader, stage: Stage, entered: usize) -> Reader
     ensures { result ≡ entering reader stage entered }
 {
@@ -85,7 +85,7 @@ fn accept_network(reader: Reader, shortcuts: usize) -> Reader
     }
 }
 
-// The network in front of the columns is tested and prepared. `prepare` answers with a number, as C gets it: so it is the number that is asked here.
+// The network in front of the columns is tested and prepared. `prepare` promises a number (`PreparedInto`): so it is the number that is asked here.
 fn close_network(reader: Reader, lent: &mut Lent) -> Reader
     ensures closed { Closed reader (lent_of lent.old) result (lent_of lent.new) }
     ensures same_lent { SameLent lent.old lent.new }

@@ -6,7 +6,7 @@ ghost use Rattle.card.specs.Lent.{network_in_room};
 
 use network::lent::{Network, ShortcutRoom};
 
-// The columns of a network, to be written.
+// The columns of a network, to be written. A struct of its own: no type parameter stands for `&` and `&mut`.
 #[derive(Drop)]
 pub struct NetworkRoom<'a> {
     pub node_modes: &'a mut [u8],

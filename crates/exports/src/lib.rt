@@ -1,4 +1,5 @@
 // The C interface of the core. A slice passes as a pointer and a length; include/journeys.h says the same to a C compiler.
+// Each function makes its structs of what C hands over: a function that made them would take the same slices once more, and promise no more than the struct shows.
 #![tactic(auto)]
 
 mod bytes;

@@ -32,7 +32,7 @@ fn open_before(
 }
 
 // Opens the rows at the front of the journey room in place: `written` rows, `count` edges in all. From the last to the first, since no row has
-// fewer edges than one, so that the legs of a row never reach the rows before it.
+// fewer edges than one, so that the legs of a row never reach the rows before it. Two numbers beside the room: rows and legs share its places.
 fn open_back(
     network: &Network,
     shortcuts: &Shortcuts,
@@ -50,6 +50,7 @@ fn open_back(
 }
 
 // Answers the question over the network and its shortcuts, and writes the edges of the journey to the front of the journey room.
+// `from` and `to` are two numbers, as in `search::plain`.
 pub fn search_contracted(
     network: &Network,
     shortcuts: &Shortcuts,

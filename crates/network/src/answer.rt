@@ -15,10 +15,10 @@ pub struct Answer {
 }
 
 impl Answer {
-    // C gets a number, so whoever is handed an answer compares it with this one.
+    // An answer shows a number, and the promises speak of it (`PreparedInto`, `Contracted`): so whoever is handed one compares its number with this.
     pub const ANSWERED: u8 = 0;
 
-    // A number and its place, with no time and no count.
+    // A number and its place, with no time and no count. Of any number: docs/PROMISES names it so. The conversions below go through it.
     pub fn show(number: u8, place: usize) -> Answer
         ensures { result ≡ shown number place }
     {

@@ -26,7 +26,7 @@ fn edge_fine(network: &Network, e: usize) -> bool
                 && at(network.node_modes, head) == mode)
 }
 
-// The lowest edge that breaks its rule.
+// The lowest edge that breaks its rule: one `find`, as of the other rules, over a promise of its own.
 pub(crate) fn first_bad_edge(network: &Network) -> Option<usize>
     ensures { Found (EdgeFine (network_of network.now)) 0 (edges (network_of network.now)) result }
 {

@@ -1,5 +1,6 @@
 // What a caller lends, column by column: a network, its shortcuts to read, and a room for shortcuts to be written.
-// A network and its shortcuts are two values: the checks, preparation and the plain search have the one without the other.
+// Columns side by side, as C and a card have them: memory is fixed and lent. A network and its shortcuts are two values: the checks and the plain search
+// are given the one alone, and preparation reads the one while it writes the other.
 ghost use Rattle.std.specs.Prelude.{◌≡◌};
 ghost use Rattle.network.specs.Lent.{network_of, columns_of, room_columns, front_network, front_columns};
 

@@ -15,7 +15,7 @@ fn node_fine(network: &Network, v: usize) -> bool
     matches!(at(network.node_modes, v), 1..=7)
 }
 
-// The lowest node that breaks its rule.
+// The lowest node that breaks its rule: one `find`, as of the other rules, over a promise of its own.
 pub(crate) fn first_bad_node(network: &Network) -> Option<usize>
     ensures { Found (NodeFine (network_of network.now)) 0 (nodes (network_of network.now)) result }
 {

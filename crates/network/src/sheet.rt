@@ -26,7 +26,7 @@ impl State {
     };
 }
 
-// The first `states` of the entries are the sheet's; the rest are not read. Any number of states may be given: that there are eight at most stands
+// The first `states` of the entries are the sheet's; the rest are not read: memory is fixed. Any number of states may be given: that there are eight at most stands
 // with the functions behind the test of it.
 #[derive(Clone, Copy, Debug)]
 pub struct Sheet {
@@ -51,7 +51,7 @@ fn state_fine(sheet: &Sheet, q: usize) -> bool
     state.modes % 2 == 0 && (state.next as u16) < first_absent_bit(sheet.states) && state.ends <= 3
 }
 
-// The lowest state that breaks its rule.
+// The lowest state that breaks its rule: one `find`, as of the other rules, over a promise of its own.
 fn first_bad_state(sheet: &Sheet) -> Option<usize>
     requires { sheet.now.states ≤ 8 }
     ensures { Found (StateFine sheet.now) 0 sheet.now.states result }

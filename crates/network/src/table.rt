@@ -87,7 +87,7 @@ fn row_sound(network: &Network, shortcuts: &Shortcuts, r: usize) -> bool
     joins(network.node_ranks, x, a, b)
 }
 
-// The lowest shortcut row that is not sound.
+// The lowest shortcut row that is not sound: one `find`, as of the other rules, over a promise of its own.
 fn first_bad_row(network: &Network, shortcuts: &Shortcuts) -> Option<usize>
     requires { RowsSized (network_of network.now) (columns_of shortcuts.now) }
     ensures { Found (SoundRow (network_of network.now) (table (columns_of shortcuts.now))) (edges (network_of network.now)) (rows (network_of network.now) (table (columns_of shortcuts.now))) result }

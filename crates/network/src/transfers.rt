@@ -30,7 +30,7 @@ fn lower_by_link(network: &Network, e: usize, low: usize) -> usize
     lower_unless_core(network.node_ranks, node_at(network.heads, e), by_tail)
 }
 
-// The lowest transfer node that is not core.
+// The lowest transfer node that is not core. No `find`, which would read all edges for each node.
 pub(crate) fn first_bad_transfer(network: &Network) -> Option<usize>
     ensures { Found (TransferFine (network_of network.now)) 0 (nodes (network_of network.now)) result }
 {

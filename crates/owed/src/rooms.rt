@@ -7,7 +7,7 @@ use network::lent::ShortcutRoom;
 
 // 512 nodes, 2,048 edges, 4,096 rows for shortcuts, 4,096 places for a journey, and work rooms of 16 and 32 numbers per node. The longest line has
 // 4,095 legs of up to four digits, each with its space, behind a time and a count: less than 32,768 bytes, and less than what the card's quick test
-// of room asks for. So about 250 KB in all.
+// of room asks for. So about 250 KB in all. Column by column, as they are lent: memory is fixed.
 #[derive(Drop)]
 pub struct Rooms {
     node_modes: [u8; 512],

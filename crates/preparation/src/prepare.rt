@@ -25,8 +25,9 @@ use search::room::check_room;
 // Edges and shortcuts together.
 const MOST_ROWS: usize = 4096;
 
-// The turn of a node: `stood` shortcuts stood before it, and there may be up to `limit` in all. What is known of the lent rows and rooms (`InTurn`, `Even`)
-// stays in the contracts: they are written to, and a field that refers to them would have to be kept true at each write.
+// The turn of a node: `stood` shortcuts stood before it, and there may be up to `limit` in all. What is known of the lent rows and rooms (`InTurn`, `Even`,
+// `Neighbours`, `TestFits`) stays in the contracts, here and in the files below: they are written to between two calls, and a field that refers to them
+// would have to be kept true at each write.
 #[derive(Clone, Copy)]
 struct Turn<'a> {
     network: Network<'a>,
@@ -159,7 +160,7 @@ fn admit(
     check_room(network, wides, narrows)
 }
 
-// How many shortcuts there may be with so many edges in so many lent rows.
+// How many shortcuts there may be with so many edges in so many lent rows: a `min` that promises (`Most`).
 fn most_shortcuts(edges: usize, lent: usize) -> usize
     requires { edges ≤ 2048 }
     ensures { Most edges lent result }

@@ -17,7 +17,7 @@ const NO_ROW: u32 = 4096;
 // The mark of a shortcut that is called for; without it there is 0.
 const MARKED: u32 = 1;
 
-// The slot of the least row from the node x to v.
+// The slot of the least row from the node x to v. It and `out_slot` are two functions: a side as a parameter would only move their names into a value.
 pub(crate) fn into_slot(nodes: usize, x: usize) -> usize
     requires { (nodes ≤ 512) × (x < 65536) }
     ensures { result ≡ into_at nodes x }

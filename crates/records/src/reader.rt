@@ -83,7 +83,7 @@ pub enum Stage {
     Ended,
     // The stream was refused: nothing more is read.
     Over,
-    // None of these, where no stream comes: nothing may come, and its end is refused.
+    // None of these, where no stream comes: nothing may come, and its end is refused. A stage is made of every number, as docs/PROMISES has it.
     Astray,
 }
 
@@ -138,7 +138,7 @@ pub struct Reader {
     pub entered: usize,
     pub shortcuts: usize,
     pub sheet: Sheet,
-    // How long the line is that stands in front of the line room.
+    // How long the line is that stands in front of the line room, which is the caller's; 0 where none does.
     pub written: usize,
 }
 
@@ -190,7 +190,7 @@ pub fn finish_record(reader: Reader, stage: Stage, written: usize) -> Reader
     next
 }
 
-// A number of two bytes, big-endian.
+// A number of two bytes, big-endian: `from_be_bytes`, by the name that the promises have for it.
 pub fn word_of(high: u8, low: u8) -> u16
     ensures { result ≡ word high low }
 {

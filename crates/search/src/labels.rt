@@ -1,4 +1,5 @@
-// How labels stand in the work rooms: the one file that knows. specs/Labels says the same to the proofs.
+// How labels stand in the work rooms; `homeward` has the bits of a hint besides, and `engine` the start of all. specs/Labels says the same to the proofs.
+// Mark, row, state and phase of a place share one number: the rooms are lent, and no larger.
 // The rooms go side by side, as they are lent: a struct of both would have every contract say that its fields are still the caller's.
 // `p < 8192` keeps the sums in range. A type for a place would be opened again at each of them, and is no plainer.
 ghost use Rattle.std.specs.Prelude.{◌≡◌, ◌+◌, ◌*◌, ◌/◌, ◌%◌, ◌<◌, ◌≤◌, length, get_or, set};

@@ -32,7 +32,7 @@ fn admit(
 }
 
 // The search over the edges: the least weight, and the edges of a path of that weight. As many edges are written as the answer counts, and none
-// with a number above 0.
+// with a number above 0. `from` and `to` are two numbers, in 01's order; behind the checks they are fields of the question.
 pub fn search_plain(
     network: &Network,
     sheet: &Sheet,

@@ -39,6 +39,7 @@ fn admit(
 }
 
 // The search over edges and shortcuts, up and then down by the order of contraction: the least weight, and the rows of a path of that weight.
+// `from` and `to` are two numbers, as in `plain`.
 pub fn search_rows(
     network: &Network,
     shortcuts: &Shortcuts,

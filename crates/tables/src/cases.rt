@@ -43,7 +43,7 @@ fn run_network(stdout: &impl Print, sizes: Sizes, at: Place, asks: Place) {
     );
 }
 
-// The stored network whose name stands at a place. How far the input is read then.
+// The stored network whose name stands at a place. How far the input is read then. That the place is in the input is asked for by the slice.
 fn run_one(stdout: &impl Print, input: &[u8], at: usize) -> usize
     requires { at < length input.now }
 {

@@ -59,7 +59,7 @@ fn load<T: Stored>(column: &mut [T], from: Place, n: u16) {
     }
 }
 
-// A network's columns, with a place for one node too many.
+// A network's columns, side by side as they are lent, with a place for one node too many.
 #[derive(Drop)]
 pub struct Columns {
     node_modes: [u8; 513],
