@@ -43,11 +43,14 @@ fn run_network(stdout: &impl Print, sizes: Sizes, at: Place, asks: Place) {
     );
 }
 
-// The stored network whose name stands at a place. How far the input is read then. That the place is in the input is asked for by the slice.
-fn run_one(stdout: &impl Print, input: &[u8], at: usize) -> usize
-    requires { at < length input.now }
+// The stored network whose name stands at a place, and the place behind its questions. That the name is in the input is asked for by the slice.
+fn run_one<'a>(stdout: &impl Print, name: Place<'a>) -> Place<'a>
+    requires { name.at < length name.input.now }
 {
-    let mut cursor = Cursor { rest: &input[at..] };
+    let input = name.input;
+    let mut cursor = Cursor {
+        rest: &input[name.at..],
+    };
     // A write that fails is passed over, as in `show`.
     let _ = stdout.write_all(cursor.name());
     let head = Place {
@@ -57,16 +60,19 @@ fn run_one(stdout: &impl Print, input: &[u8], at: usize) -> usize
     let sizes = Sizes::load(head);
     let asks = head.behind(SIZES_BYTES + sizes.columns_bytes());
     run_network(stdout, sizes, head.behind(SIZES_BYTES), asks);
-    asks.at + (QUESTION_BYTES * u32::from(sizes.questions)) as usize
+    Place {
+        input,
+        at: asks.at + (QUESTION_BYTES * u32::from(sizes.questions)) as usize,
+    }
 }
 
 // All that the input holds.
 pub fn run(stdout: &impl Print, input: &[u8]) {
-    let mut at = 0;
+    let mut name = Place { input, at: 0 };
     for _ in 0..MANY {
-        if input.len() <= at {
+        if name.input.len() <= name.at {
             return;
         }
-        at = run_one(stdout, input, at);
+        name = run_one(stdout, name);
     }
 }
