@@ -20,7 +20,7 @@ pub struct Case<'a> {
 }
 
 impl<'a> Case<'a> {
-    pub fn new(name: &'a str, sheet: Sheet, from: u16, to: u16) -> Case<'a> {
+    pub(crate) fn new(name: &'a str, sheet: Sheet, from: u16, to: u16) -> Case<'a> {
         Case {
             name,
             sheet,
@@ -69,7 +69,7 @@ fn plain(stdout: &impl Print, case: Case, network: &Network, rooms: Rooms) {
     );
 }
 
-pub fn rows(
+pub(crate) fn rows(
     stdout: &impl Print,
     case: Case,
     network: &Network,
@@ -100,7 +100,7 @@ pub fn rows(
 }
 
 // Both searches, in rooms of so many places. An array must fit a memory: so must those of its callers.
-pub fn both<const JOURNEY: usize, const WIDE: usize, const NARROW: usize>(
+pub(crate) fn both<const JOURNEY: usize, const WIDE: usize, const NARROW: usize>(
     stdout: &impl Print,
     case: Case,
     network: &Network,

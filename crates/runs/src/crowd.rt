@@ -19,7 +19,7 @@ fn unlinked<'a>(node_modes: &'a [u8], node_ranks: &'a [u16]) -> Network<'a> {
 }
 
 // One node, in rooms that are larger than it needs: all of them are zeroed.
-pub fn alone(stdout: &impl Print, name: &str) {
+pub(crate) fn alone(stdout: &impl Print, name: &str) {
     both::<8, 112, 224>(
         stdout,
         Case::new(name, endless(), 0, 0),
@@ -49,7 +49,7 @@ fn seven(stdout: &impl Print, name: &str, from: u16, to: u16) {
     );
 }
 
-pub fn run(stdout: &impl Print) {
+pub(crate) fn run(stdout: &impl Print) {
     full::<512>(stdout, "512 nodes, 0 to 511", 0, 511);
     full::<512>(stdout, "512 nodes, 511 to 511", 511, 511);
     full::<512>(stdout, "512 nodes, 0 to 512", 0, 512);

@@ -20,7 +20,7 @@ fn children(stdout: &impl Print, name: &str, firsts: &[u16], seconds: &[u16]) {
     );
 }
 
-pub fn run(stdout: &impl Print) {
+pub(crate) fn run(stdout: &impl Print) {
     in_rooms::<8, 111, 224>(stdout, "wide room 111");
     in_rooms::<8, 112, 223>(stdout, "narrow room 223");
     // The column of second children lacks its only entry.

@@ -5,7 +5,7 @@ use crate::sheets::{by_rail, rail_last};
 use network::order::CORE;
 use std::io::Print;
 
-pub fn run(stdout: &impl Print) {
+pub(crate) fn run(stdout: &impl Print) {
     without_shortcut(stdout, CORE, 0, Case::new("length 0", by_rail(), 0, 6));
     without_shortcut(stdout, CORE, 1, Case::new("length 1", by_rail(), 0, 6));
     with_shortcut(stdout, 65534, 9, Case::new("rank 65534", by_rail(), 0, 6));

@@ -14,14 +14,14 @@ pub struct Reference {
 }
 
 impl Reference {
-    pub fn new(rank: u16, length: u16) -> Reference {
+    pub(crate) fn new(rank: u16, length: u16) -> Reference {
         Reference {
             node_ranks: [5, 0, rank, CORE, CORE, CORE, 5],
             lengths: [4, 3, 2, 6, 2, 5, length, 30],
         }
     }
 
-    pub fn network(&self) -> Network<'_> {
+    pub(crate) fn network(&self) -> Network<'_> {
         Network {
             node_modes: &[1, 1, 1, 2, 2, 1, 1],
             node_ranks: &self.node_ranks,
@@ -34,7 +34,7 @@ impl Reference {
 }
 
 // The table that preparation makes: row 8 from 0 to 2, with its children, which are 0 and 1 where it is sound.
-pub fn shortcut<'a>(firsts: &'a [u16], seconds: &'a [u16]) -> Shortcuts<'a> {
+pub(crate) fn shortcut<'a>(firsts: &'a [u16], seconds: &'a [u16]) -> Shortcuts<'a> {
     Shortcuts {
         tails: &[0],
         heads: &[2],
@@ -47,7 +47,7 @@ pub fn shortcut<'a>(firsts: &'a [u16], seconds: &'a [u16]) -> Shortcuts<'a> {
 }
 
 // P1 in rooms of so many places: a journey takes 6, and the work of seven nodes 112 and 224.
-pub fn in_rooms<const JOURNEY: usize, const WIDE: usize, const NARROW: usize>(
+pub(crate) fn in_rooms<const JOURNEY: usize, const WIDE: usize, const NARROW: usize>(
     stdout: &impl Print,
     name: &str,
 )
@@ -62,13 +62,13 @@ pub fn in_rooms<const JOURNEY: usize, const WIDE: usize, const NARROW: usize>(
 }
 
 // Both searches, the one over rows with the shortcut that preparation makes.
-pub fn with_shortcut(stdout: &impl Print, rank: u16, length: u16, case: Case) {
+pub(crate) fn with_shortcut(stdout: &impl Print, rank: u16, length: u16, case: Case) {
     let reference = Reference::new(rank, length);
     both::<8, 112, 224>(stdout, case, &reference.network(), &shortcut(&[0], &[1]));
 }
 
 // Both searches, where edge 6 is so short that preparation makes no shortcut.
-pub fn without_shortcut(stdout: &impl Print, rank: u16, length: u16, case: Case) {
+pub(crate) fn without_shortcut(stdout: &impl Print, rank: u16, length: u16, case: Case) {
     let reference = Reference::new(rank, length);
     both::<8, 112, 224>(stdout, case, &reference.network(), &Shortcuts::NONE);
 }

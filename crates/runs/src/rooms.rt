@@ -19,7 +19,11 @@ fn holds<T: From<u8> + PartialEq + Drop>(room: &[T], value: u8) -> bool {
 }
 
 impl<'a> Rooms<'a> {
-    pub fn filled(journey: &'a mut [u16], wide: &'a mut [u64], narrow: &'a mut [u32]) -> Rooms<'a> {
+    pub(crate) fn filled(
+        journey: &'a mut [u16],
+        wide: &'a mut [u64],
+        narrow: &'a mut [u32],
+    ) -> Rooms<'a> {
         journey.fill(BLANK);
         wide.fill(FILLER.into());
         narrow.fill(FILLER.into());
@@ -35,7 +39,7 @@ impl<'a> Rooms<'a> {
         holds(self.wide, value) && holds(self.narrow, value)
     }
 
-    pub fn work(&self) -> &'static str {
+    pub(crate) fn work(&self) -> &'static str {
         if self.work_holds(0) {
             "zero"
         } else if self.work_holds(FILLER) {
@@ -46,7 +50,7 @@ impl<'a> Rooms<'a> {
     }
 
     // The journey room behind the first `written` places.
-    pub fn rest(&self, written: usize) -> &'static str {
+    pub(crate) fn rest(&self, written: usize) -> &'static str {
         if self.journey.iter().skip(written).all(|leg| *leg == BLANK) {
             "untouched"
         } else {

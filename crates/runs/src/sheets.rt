@@ -12,7 +12,7 @@ fn single(only: State) -> Sheet {
 }
 
 // A: on foot, by rail in between.
-pub fn by_rail() -> Sheet {
+pub(crate) fn by_rail() -> Sheet {
     let mut entries = [State::ABSENT; 8];
     entries[0] = state(2, 2, 3);
     entries[1] = state(4, 1, 0);
@@ -20,22 +20,22 @@ pub fn by_rail() -> Sheet {
 }
 
 // F: on foot only.
-pub fn on_foot() -> Sheet {
+pub(crate) fn on_foot() -> Sheet {
     single(state(2, 0, 3))
 }
 
 // R: by rail only.
-pub fn rail_only() -> Sheet {
+pub(crate) fn rail_only() -> Sheet {
     single(state(4, 0, 3))
 }
 
 // A sheet that can be begun and never ended.
-pub fn endless() -> Sheet {
+pub(crate) fn endless() -> Sheet {
     single(state(2, 0, 1))
 }
 
 // Sheet A with its rail state as the eighth, so that the last entry is read.
-pub fn rail_last(states: u8) -> Sheet {
+pub(crate) fn rail_last(states: u8) -> Sheet {
     let mut entries = [State::ABSENT; 8];
     entries[0] = state(2, 128, 3);
     entries[7] = state(4, 1, 0);

@@ -5,7 +5,7 @@ use std::io::Print;
 
 // The case's name, the search, its answer's number, place, time and count, the legs, and the lent rooms.
 // A write that fails is passed over: what it leaves out is missing from the output.
-pub fn answered(
+pub(crate) fn answered(
     stdout: &impl Print,
     name: &str,
     search: &str,

@@ -6,7 +6,7 @@ use crate::sheets::{by_rail, on_foot, rail_only};
 use network::order::CORE;
 use std::io::Print;
 
-pub fn run(stdout: &impl Print) {
+pub(crate) fn run(stdout: &impl Print) {
     with_shortcut(stdout, CORE, 9, Case::new("P1", by_rail(), 0, 6));
     with_shortcut(stdout, CORE, 9, Case::new("P2", on_foot(), 0, 6));
     with_shortcut(stdout, CORE, 9, Case::new("P3", by_rail(), 0, 3));
