@@ -11,6 +11,7 @@ use crate::refusal::{Fault, Refusal};
 use crate::transfers::first_bad_transfer;
 
 // Whether the sizes are within the limits, and columns agree in length.
+#[inline(always)]
 pub fn network_sized(network: &Network) -> bool
     ensures { Decides result (Sized (network_of network.now)) }
 {
@@ -26,16 +27,19 @@ pub fn network_sized(network: &Network) -> bool
 }
 
 // The rules of nodes, edges and transfer nodes: numbers 2, 3, 4.
+#[inline(always)]
 pub fn check_entries(network: &Network) -> Result<(), Refusal>
     ensures { Ruled (entries_order (network_of network.now)) result }
 {
-    if let Some(node) = first_bad_node(network) {
+    // A copy of its own: what it refers to is read once, and not for each node and edge.
+    let network = *network;
+    if let Some(node) = first_bad_node(&network) {
         return Err(Fault::NodeMode.at(node));
     }
-    if let Some(edge) = first_bad_edge(network) {
+    if let Some(edge) = first_bad_edge(&network) {
         return Err(Fault::Edge.at(edge));
     }
-    if let Some(node) = first_bad_transfer(network) {
+    if let Some(node) = first_bad_transfer(&network) {
         return Err(Fault::Transfer.at(node));
     }
     Ok(())

@@ -12,5 +12,6 @@ pub fn contracted_before(node_ranks: &[u16], x: usize, y: usize) -> bool
     ensures { Decides result (Before node_ranks.now x y) }
 {
     let rank = at(node_ranks, x);
-    rank != CORE && (rank, x) < (at(node_ranks, y), y)
+    let other = at(node_ranks, y);
+    rank < other || rank == other && rank != CORE && x < y
 }

@@ -32,6 +32,7 @@ impl Row {
 }
 
 // The edge e as a row.
+#[inline(always)]
 fn edge_row(network: &Network, e: usize) -> Row
     ensures { result ≡ edge_row (network_of network.now) e }
 {
@@ -47,6 +48,7 @@ fn edge_row(network: &Network, e: usize) -> Row
 }
 
 // The shortcut i of the columns.
+#[inline(always)]
 fn shortcut_row(shortcuts: &Shortcuts, i: usize) -> Row
     ensures { result ≡ shortcut (columns_of shortcuts.now) i }
 {
@@ -61,8 +63,9 @@ fn shortcut_row(shortcuts: &Shortcuts, i: usize) -> Row
     }
 }
 
-// The row r: an edge, then a shortcut.
-pub fn row_at(network: &Network, shortcuts: &Shortcuts, r: usize) -> Row
+// The row r, an edge, then a shortcut, in line: for the check, which reads every row and its children.
+#[inline(always)]
+pub(crate) fn row_in_line(network: &Network, shortcuts: &Shortcuts, r: usize) -> Row
     ensures { result ≡ row_read (network_of network.now) (columns_of shortcuts.now) r }
 {
     if r < network.tails.len() {
@@ -70,6 +73,13 @@ pub fn row_at(network: &Network, shortcuts: &Shortcuts, r: usize) -> Row
     }
     let i = r - network.tails.len();
     shortcut_row(shortcuts, i)
+}
+
+// The row r, by a call: the searches go past most rows by their tail, and their loops stay short.
+pub fn row_at(network: &Network, shortcuts: &Shortcuts, r: usize) -> Row
+    ensures { result ≡ row_read (network_of network.now) (columns_of shortcuts.now) r }
+{
+    row_in_line(network, shortcuts, r)
 }
 
 // The tail of the row r, read alone: whoever looks for the rows from a node reads no more of all others.

@@ -8,7 +8,7 @@ ghost use Rattle.network.specs.Rows.{table, rows, Even, RowsSized, EndsFit, Meet
 use crate::lent::{Network, Shortcuts};
 use crate::order::{CORE, contracted_before};
 use crate::refusal::{Fault, Refusal};
-use crate::rows::{Row, row_at};
+use crate::rows::{Row, row_in_line};
 use columns::at;
 
 // Whether the columns agree in length.
@@ -76,14 +76,14 @@ fn row_sound(network: &Network, shortcuts: &Shortcuts, r: usize) -> bool
     requires { Even (columns_of shortcuts.now) }
     ensures { Decides result (SoundRow (network_of network.now) (table (columns_of shortcuts.now)) r) }
 {
-    let x = row_at(network, shortcuts, r);
+    let x = row_in_line(network, shortcuts, r);
     let first = x.first as usize;
     let second = x.second as usize;
     if r <= first || r <= second {
         return false;
     }
-    let a = row_at(network, shortcuts, first);
-    let b = row_at(network, shortcuts, second);
+    let a = row_in_line(network, shortcuts, first);
+    let b = row_in_line(network, shortcuts, second);
     joins(network.node_ranks, x, a, b)
 }
 
@@ -92,8 +92,11 @@ fn first_bad_row(network: &Network, shortcuts: &Shortcuts) -> Option<usize>
     requires { RowsSized (network_of network.now) (columns_of shortcuts.now) }
     ensures { Found (SoundRow (network_of network.now) (table (columns_of shortcuts.now))) (edges (network_of network.now)) (rows (network_of network.now) (table (columns_of shortcuts.now))) result }
 {
+    // Copies of their own: what they refer to is read once, and not for each row.
+    let network = *network;
+    let shortcuts = *shortcuts;
     let edges = network.tails.len();
-    (edges..edges + shortcuts.tails.len()).find(|r| !row_sound(network, shortcuts, *r))
+    (edges..edges + shortcuts.tails.len()).find(|r| !row_sound(&network, &shortcuts, *r))
 }
 
 // The check of the shortcut rows of any network: number 1 for their sizes, and 10.

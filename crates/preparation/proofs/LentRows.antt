@@ -4,15 +4,15 @@ use mathlib.Core.List.{List, [], ◌∷◌, ◌++◌, append-nil, append_assoc}
 use Prim.Native.Nat.{ℕ, zero, suc, ◌+◌, ◌-◌, ◌<◌, ◌≤◌, min}
 use native.Mathlib.Omega.{arith}
 use native.Mathlib.Decide.{dec_lt}
-use lib.ListN.{length, get_or, take, replicate, length-append, length-take, length-set, replicate-append-replicate}
-use lib.Seq.{length-take-le, take_all, take-take, take-append-le}
+use lib.ListN.{length, get_or, take, replicate, length-append, length-replicate, length-take, length-set, get_or-append, get_or-replicate}
+use lib.Seq.{length-take-le, take-take, take-append-le, get_or-append_right, ext_get_or}
 use Rattle.network.specs.declared.rows.Row.{Row}
-use Rattle.network.specs.Rows.{Columns, Even, no_row, table}
-use Rattle.network.proofs.RowLaws.{table_length}
+use Rattle.network.specs.Rows.{Columns, Even, no_row, shortcut, table}
+use Rattle.network.proofs.RowLaws.{row-≡, table_length, table_at}
 use Rattle.preparation.specs.Answers.{Holds}
 use Rattle.network.specs.Lent.{front_columns}
 use Rattle.preparation.specs.Preparing.{put_row, SameSize, row_told, mark_at, marked_rows, Appends, Overruns}
-use Rattle.preparation.specs.Writing.{marked_row}
+use Rattle.preparation.specs.Writing.{marked_row, zeroes_behind, zeroed_behind}
 use Rattle.preparation.proofs.ColumnLaws.{front_even, table_front, put_even, front_more, columns_same}
 use Rattle.preparation.proofs.MarkedRows.{row_marked}
 
@@ -124,43 +124,88 @@ module _ {n mode u : ℕ} {wide narrow : List ℕ} {T : Columns} {at limit : ℕ
 
 -- rows that are zeroed -----------------------------------------------------------------------------------------------------------------------------
 
--- those from `at` on and below i are
-pub record Zeroing (T : Columns) (at : ℕ) (U : Columns) (i : ℕ) : Type 0 where
-  pub same : SameSize T U
-  pub from : at ≤ i
-  pub within : i ≤ length T.tails
-  pub shows : table (front_columns i U) ≡ table (front_columns at T) ++ replicate (i - at) no_row
+zeroes_length : (n : ℕ) (l : List ℕ) → n ≤ length l → length (zeroes_behind n l) ≡ length l
+zeroes_length n l h =
+    omega (arith, length-append (take n l) (replicate (length l - n) 0), length-take-le n l h, length-replicate {A = ℕ} (length l - n) 0)
 
-pub zeroing_more : {T U W : Columns} {at i : ℕ} → Zeroing T at U i → i < length T.tails → W ≡ put_row U i no_row → Zeroing T at W (i + 1)
-zeroing_more {T} {U} {W} {at} {i} z h e = let l : i < length U.tails = omega (arith, z.same.size) in subst (λ (X : Columns). Zeroing T at X (i + 1)) (sym e) (record {
-  same = size_trans z.same (size_put z.same.even i no_row);
-  from = omega (arith, z.from);
-  within = omega (arith, z.same.size);
-  shows = front_more z.same.even i no_row l ∙ ap (λ (ss : List Row). ss ++ (no_row ∷ [])) z.shows
-      ∙ append_assoc (table (front_columns at T)) (replicate (i - at) no_row) (no_row ∷ [])
-      ∙ ap (λ (ss : List Row). table (front_columns at T) ++ ss) one_more;
-})
-  where
-    one_more : replicate (i - at) no_row ++ (no_row ∷ []) ≡ replicate (i + 1 - at) no_row
-    one_more =
-        let k : i - at + 1 ≡ i + 1 - at = omega (arith, z.from) in
-        replicate-append-replicate (i - at) 1 no_row ∙ ap (λ (m : ℕ). replicate m no_row) k
+zeroes_front : (n : ℕ) (l : List ℕ) → n ≤ length l → (i : ℕ) → i < n → get_or (zeroes_behind n l) i 0 ≡ get_or (take n l) i 0
+zeroes_front n l h i b = get_or-append (take n l) (replicate (length l - n) 0) 0 i (omega (arith, length-take-le n l h))
 
-pub zeroing_done : {T U : Columns} {at i : ℕ} → Even T → Zeroing T at U i → length T.tails ≤ i → Holds U (length T.tails) (table (front_columns at T))
-zeroing_done {T} {U} {at} {i} v z l = record {
-  even = z.same.even;
-  size = z.same.size;
-  shows = sym (take_all i (table U) (omega (arith, table_length U))) ∙ sym (table_front i z.same.even) ∙ z.shows
-      ∙ ap (λ (m : ℕ). table (front_columns at T) ++ replicate m no_row) left;
-}
-  where
-    left : i - at ≡ length T.tails - length (table (front_columns at T))
-    left =
-        omega (
-          arith,
-          table_length (front_columns at T),
-          length-take-le at T.tails (omega (arith, z.from, z.within)),
-          z.from,
-          z.within,
-          z.same.size,
-        )
+zeroes_back : (n : ℕ) (l : List ℕ) → n ≤ length l → (i : ℕ) → n ≤ i → i < length l → get_or (zeroes_behind n l) i 0 ≡ 0
+zeroes_back n l h i a b =
+    get_or-append_right (take n l) (replicate (length l - n) 0) i 0 (omega (arith, length-take-le n l h))
+    ∙ get_or-replicate (length l - n) (i - length (take n l)) 0 0 (omega (arith, length-take-le n l h))
+
+module _ {T : Columns} {n : ℕ} (v : Even T) (h : n ≤ length T.tails) where
+  zeroed_even : Even (zeroed_behind n T)
+  zeroed_even = record {
+    heads_even = cut T.heads v.heads_even;
+    modes_even = cut T.modes v.modes_even;
+    lengths_even = cut T.lengths v.lengths_even;
+    counts_even = cut T.counts v.counts_even;
+    firsts_even = cut T.firsts v.firsts_even;
+    seconds_even = cut T.seconds v.seconds_even;
+  }
+    where
+      cut : (l : List ℕ) → length l ≡ length T.tails → length (zeroes_behind n l) ≡ length (zeroes_behind n T.tails)
+      cut l e = zeroes_length n l (omega (arith, e, h)) ∙ e ∙ sym (zeroes_length n T.tails h)
+
+  zeroed_front : (i : ℕ) → i < n → shortcut (zeroed_behind n T) i ≡ shortcut (front_columns n T) i
+  zeroed_front i b = row-≡
+      (zeroes_front n T.tails h i b)
+      (zeroes_front n T.heads (omega (arith, h, v.heads_even)) i b)
+      (zeroes_front n T.modes (omega (arith, h, v.modes_even)) i b)
+      (zeroes_front n T.lengths (omega (arith, h, v.lengths_even)) i b)
+      (zeroes_front n T.counts (omega (arith, h, v.counts_even)) i b)
+      (zeroes_front n T.firsts (omega (arith, h, v.firsts_even)) i b)
+      (zeroes_front n T.seconds (omega (arith, h, v.seconds_even)) i b)
+
+  zeroed_back : (i : ℕ) → n ≤ i → i < length T.tails → shortcut (zeroed_behind n T) i ≡ no_row
+  zeroed_back i a b = row-≡
+      (zeroes_back n T.tails h i a b)
+      (zeroes_back n T.heads (omega (arith, h, v.heads_even)) i a (omega (arith, b, v.heads_even)))
+      (zeroes_back n T.modes (omega (arith, h, v.modes_even)) i a (omega (arith, b, v.modes_even)))
+      (zeroes_back n T.lengths (omega (arith, h, v.lengths_even)) i a (omega (arith, b, v.lengths_even)))
+      (zeroes_back n T.counts (omega (arith, h, v.counts_even)) i a (omega (arith, b, v.counts_even)))
+      (zeroes_back n T.firsts (omega (arith, h, v.firsts_even)) i a (omega (arith, b, v.firsts_even)))
+      (zeroes_back n T.seconds (omega (arith, h, v.seconds_even)) i a (omega (arith, b, v.seconds_even)))
+
+  made_length : length (table (front_columns n T)) ≡ n
+  made_length = table_length (front_columns n T) ∙ length-take-le n T.tails h
+
+  pub zeroed_holds : {U : Columns} → U ≡ zeroed_behind n T → Holds U (length T.tails) (table (front_columns n T))
+  zeroed_holds {U} e = subst (λ (W : Columns). Holds W (length T.tails) (table (front_columns n T))) (sym e) (record {
+    even = zeroed_even;
+    size = zeroes_length n T.tails h;
+    shows = ext_get_or no_row (table (zeroed_behind n T)) (table (front_columns n T) ++ replicate left no_row) sizes each;
+  })
+    where
+      left : ℕ
+      left = length T.tails - length (table (front_columns n T))
+
+      sizes : length (table (zeroed_behind n T)) ≡ length (table (front_columns n T) ++ replicate left no_row)
+      sizes = omega (
+        arith,
+        table_length (zeroed_behind n T),
+        zeroes_length n T.tails h,
+        length-append (table (front_columns n T)) (replicate left no_row),
+        length-replicate {A = Row} left no_row,
+        made_length,
+        h,
+      )
+
+      each : (i : ℕ) → i < length (table (zeroed_behind n T))
+          → get_or (table (zeroed_behind n T)) i no_row ≡ get_or (table (front_columns n T) ++ replicate left no_row) i no_row
+      each i l = table_at zeroed_even i ∙ go (dec_lt i n)
+        where
+          inside : i < length T.tails
+          inside = omega (arith, l, table_length (zeroed_behind n T), zeroes_length n T.tails h)
+
+          go : Dec (i < n) → shortcut (zeroed_behind n T) i ≡ get_or (table (front_columns n T) ++ replicate left no_row) i no_row
+          go (yes b) =
+              zeroed_front i b ∙ sym (table_at (front_even n v) i)
+              ∙ sym (get_or-append (table (front_columns n T)) (replicate left no_row) no_row i (omega (arith, b, made_length)))
+          go (no b) =
+              zeroed_back i (omega arith) inside
+              ∙ sym (get_or-replicate left (i - length (table (front_columns n T))) no_row no_row (omega (arith, inside, made_length)))
+              ∙ sym (get_or-append_right (table (front_columns n T)) (replicate left no_row) i no_row (omega (arith, made_length)))

@@ -1,5 +1,5 @@
 // The lent shortcut rows, and what is written to them.
-ghost use Rattle.std.specs.Prelude.{◌≡◌, ◌<◌, ◌≤◌, length};
+ghost use Rattle.std.specs.Prelude.{◌≡◌, ◌++◌, ◌-◌, ◌<◌, ◌≤◌, length, take, replicate};
 ghost use Rattle.network.specs.Lent.{room_columns, front_columns, SameRoom};
 ghost use Rattle.network.specs.Rows.{Even, table};
 ghost use Rattle.preparation.specs.Answers.{Holds};
@@ -7,7 +7,8 @@ ghost use Rattle.preparation.specs.Preparing.{put_row, Appended};
 ghost use Rattle.preparation.specs.Writing.{called_to, all_called};
 
 use crate::called::CalledFrom;
-use columns::put;
+use columns::rooms::fill;
+use columns::{Entry, put};
 use network::lent::ShortcutRoom;
 use network::rows::Row;
 
@@ -69,23 +70,25 @@ pub(crate) fn write_from(
     Some(rows)
 }
 
+// Zeroes a column behind its first n entries, in one go.
+fn zero_behind<T: Entry>(column: &mut [T], n: usize)
+    requires { n ≤ length column.old }
+    ensures { column.new ≡ take n column.old ++ replicate (length column.old - n) T.zero }
+{
+    fill(&mut column[n..], T::zero());
+}
+
 // Zeroes the rows behind the first `made`.
 pub(crate) fn zero_rows(shortcuts: &mut ShortcutRoom, made: usize)
     requires { Even (room_columns shortcuts.old) × (made ≤ length shortcuts.old.tails.now) }
     ensures holds { Holds (room_columns shortcuts.new) (length shortcuts.old.tails.now) (table (front_columns made (room_columns shortcuts.old))) }
     ensures same_room { SameRoom shortcuts.old shortcuts.new }
 {
-    // Field by field, as `Holds` has it: this is the one place that needs such a row.
-    let zero = Row {
-        tail: 0,
-        head: 0,
-        mode: 0,
-        length: 0,
-        count: 0,
-        first: 0,
-        second: 0,
-    };
-    for i in made..shortcuts.tails.len() {
-        put_row(shortcuts, i, zero);
-    }
+    zero_behind(shortcuts.tails, made);
+    zero_behind(shortcuts.heads, made);
+    zero_behind(shortcuts.modes, made);
+    zero_behind(shortcuts.lengths, made);
+    zero_behind(shortcuts.counts, made);
+    zero_behind(shortcuts.firsts, made);
+    zero_behind(shortcuts.seconds, made);
 }

@@ -99,9 +99,12 @@ fn sift_mark(nodes: usize, around: bool, w: usize, wide: &[u64], narrow: &mut [u
     requires { (nodes ≤ 512) × (w < nodes) }
     ensures { SiftedAt nodes around w wide.now narrow.old narrow.new }
 {
+    if !marked(nodes, narrow, w) {
+        return;
+    }
     let told = label_told(wide, narrow, w);
     let sum = sum_noted(nodes, wide, narrow, w);
-    if marked(nodes, narrow, w) && !prevails(around, told, sum) {
+    if !prevails(around, told, sum) {
         unmark(nodes, narrow, w);
     }
 }

@@ -55,6 +55,7 @@ fn is_target(sheet: &Sheet, to: usize, u: usize) -> bool
 }
 
 // The search: the place of a target whose label is least.
+#[inline(never)]
 pub(crate) fn run(question: &Question, wide: &mut [u64], narrow: &mut [u32]) -> Option<usize>
     requires { Roomy question.now (length wide.old) (length narrow.old) }
     ensures { Ran question.now wide.old narrow.old wide.new narrow.new result }

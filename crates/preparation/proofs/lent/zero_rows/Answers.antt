@@ -1,10 +1,14 @@
 -- `preparation::lent::zero_rows` zeroes the rows behind the first `made`. Assumes nothing.
-use Rattle.preparation.proofs.LentRows.{zeroing_more, zeroing_done}
-use Rattle.preparation.proofs.SameRoomLaws.{same_room_still}
+use Rattle.preparation.proofs.ColumnLaws.{columns-≡}
+use Rattle.preparation.proofs.LentRows.{zeroed_holds}
 use Rattle.preparation.proofs.lent.zero_rows.Goals as goal
 
-pub loop-i-preserved : goal.loop-i-preserved
-loop-i-preserved c = (zeroing_more c.loop-i.invariant.0 c.loop-i-test.true c.put_row.ensures.row, same_room_still c.loop-i.invariant.1 c.put_row.ensures.same_room)
-
 pub returns-clause-holds : goal.returns-clause-holds
-returns-clause-holds c = zeroing_done c.requires.0 c.loop-i.invariant.0 c.loop-i-test.false
+returns-clause-holds c = zeroed_holds c.requires.0 c.requires.1 (columns-≡
+    c.zero_behind.ensures
+    c.zero_behind-2.ensures
+    c.zero_behind-3.ensures
+    c.zero_behind-4.ensures
+    c.zero_behind-5.ensures
+    c.zero_behind-6.ensures
+    c.zero_behind-7.ensures)
