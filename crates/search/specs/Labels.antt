@@ -1,7 +1,7 @@
 -- How labels stand in the work rooms: for the place p the time at p of the 64-bit room, and of the 32-bit room the edges at 2p and a word at 2p + 1.
 -- The word holds, from its lowest bit on: 1 bit, whether the place waits; 4 bits, state and phase of the place before; 12 bits, the row that led
 -- here; 13 bits kept free; and 2 bits at the first place of each node, whether the target can be reached from the node by rows that lead down.
-use Rattle.std.specs.Prelude.{◌≡◌, ◌⊎◌, Bool, true, false, Option, None, Some, List, ℕ, ◌+◌, ◌*◌, ◌/◌, ◌%◌, ◌<◌, length, get_or, set}
+use Rattle.std.specs.Prelude.{◌≡◌, ◌⊎◌, Bool, true, false, Option, None, Some, List, ℕ, ◌+◌, ◌*◌, ◌/◌, ◌%◌, ◌<◌, ◌≤◌, length, get_or, set}
 use Rattle.network.specs.declared.weight.Weight.{Weight}
 use Rattle.network.specs.declared.rows.Row.{Row}
 use Rattle.network.specs.Weight.{Lighter}
@@ -44,7 +44,7 @@ hint narrow v = word narrow (16 * v) / 1073741824
 abbrev pub Says : ℕ → Option Bool → Type 0
 Says h (Some true) = h ≡ 1
 Says h (Some false) = h ≡ 0
-Says h None = Unit {0}
+Says h None = 2 ≤ h
 
 -- the hint that says so
 abbrev pub hint_of : Bool → ℕ
