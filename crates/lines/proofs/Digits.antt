@@ -2,12 +2,13 @@
 use mathlib.Core.Path.{◌≡◌, refl, sym, ap, ◌∙◌}
 use mathlib.Core.List.{List, [], ◌∷◌, ◌++◌}
 use Prim.Native.Nat.{ℕ, zero, suc, ◌+◌, ◌*◌, ◌-◌, ◌/◌, ◌%◌, ◌^◌, ◌≤◌, ◌<◌}
+use native.Mathlib.Nat.{pow-suc}
 use native.Mathlib.Omega.{arith}
 use native.Mathlib.Decide.{dec_lt}
 use lib.ListN.{length, get_or, length-append, get_or-append}
 use borrow.Author.Tests.{lt-ltb, le-ltb}
 use Rattle.std.specs.Fmt as printing
-use Rattle.std.proofs.lemmas.Fmt.{decimal_by_steps, length-decimal-le}
+use Rattle.std.proofs.lemmas.Fmt.{decimal_by_steps}
 use Rattle.lines.specs.Text.{digits, decimal}
 
 digits_one : (f n : ℕ) → n < 10 → digits (suc f) n ≡ (48 + n) ∷ []
@@ -58,8 +59,15 @@ decimal_printed n b =
     n
     b
 
-pub decimal_most : (k n : ℕ) → n < 10 ^ suc k → n < 2 ^ 64 → length (decimal n) ≤ suc k
-decimal_most k n h b = omega (arith, ap length (decimal_printed n b), length-decimal-le (suc k) n (omega arith) h b)
+pub decimal_most : (k n : ℕ) → n < 10 ^ suc k → length (decimal n) ≤ suc k
+decimal_most zero n h = let one : n < 10 = h in omega (arith, length_one n one)
+decimal_most (suc k) n h =
+    elim (dec_lt n 10) [
+      | yes one ↦ omega (arith, length_one n one)
+      | no many ↦ let m : 9 < n = omega arith in
+          let t : n / 10 < 10 ^ suc k = omega (arith, rw (pow-suc 10 (suc k)) at h) in
+          omega (arith, length_more n m, decimal_most k (n / 10) t)
+    ]
 
 -- ---- the definition says what it should: the digits tell the number, and none but `0` itself begins with a zero
 

@@ -38,14 +38,14 @@ pub spaced_most : (legs : List ℕ) → ((i : ℕ) → i < length legs → get_o
 spaced_most [] f = omega arith
 spaced_most (leg ∷ legs) f =
     let small : leg < 65536 = f 0 (omega arith) in
-    let five : length (decimal leg) ≤ 5 = decimal_most 4 leg (omega arith) (omega arith) in
+    let five : length (decimal leg) ≤ 5 = decimal_most 4 leg (omega arith) in
     omega (arith, length-append (decimal leg) (spaced legs), spaced_most legs (λ i h. f (suc i) (omega arith)))
 
 pub journey_most : (seconds count : ℕ) (legs : List ℕ) → seconds < 18446744073709551616 → count < 4294967296
     → ((i : ℕ) → i < length legs → get_or legs i 0 < 65536) → length (journey_line seconds count legs) ≤ 32 + 6 * length legs
 journey_most seconds count legs s c f =
-    let twenty : length (decimal seconds) ≤ 20 = decimal_most 19 seconds (omega arith) (omega arith) in
-    let ten : length (decimal count) ≤ 10 = decimal_most 9 count (omega arith) (omega arith) in
+    let twenty : length (decimal seconds) ≤ 20 = decimal_most 19 seconds (omega arith) in
+    let ten : length (decimal count) ≤ 10 = decimal_most 9 count (omega arith) in
     omega (arith, length_journey seconds count legs, spaced_most legs f)
 
 -- ---- a line is put part by part
@@ -79,8 +79,8 @@ line_unique (short a b c) (short d e f) = (b ∙ sym e, c ∙ sym f)
 
 pub refusal_most : (number place : ℕ) → number < 256 → place < 18446744073709551616 → length (refusal_line number place) ≤ 27
 refusal_most number place n p =
-    let three : length (decimal number) ≤ 3 = decimal_most 2 number (omega arith) (omega arith) in
-    let twenty : length (decimal place) ≤ 20 = decimal_most 19 place (omega arith) (omega arith) in
+    let three : length (decimal number) ≤ 3 = decimal_most 2 number (omega arith) in
+    let twenty : length (decimal place) ≤ 20 = decimal_most 19 place (omega arith) in
     omega (arith, length_refusal number place)
 
 -- what an answer's number types hold, with at most 4,096 legs of 16 bits
