@@ -94,4 +94,16 @@ stage_numbered number = cond (eqb number 0) HeadDue
     (cond (eqb number 1) NodesDue
     (cond (eqb number 2) EdgesDue
     (cond (eqb number 3) SheetDue
-    (cond (eqb number 4) StatesDue (cond (eqb number 5) Asking (cond (eqb number 6) Ended (cond (eqb number 7) Over Astray)))))))
+    (cond (eqb number 4) StatesDue (cond (eqb number 5) Asking (cond (eqb number 6) Ended (cond (eqb number 7) Over (Astray number))))))))
+
+-- the number of a stage (proofs/StageLaws: the one that it was made of)
+abbrev pub number_of : Stage → ℕ
+number_of HeadDue = 0
+number_of NodesDue = 1
+number_of EdgesDue = 2
+number_of SheetDue = 3
+number_of StatesDue = 4
+number_of Asking = 5
+number_of Ended = 6
+number_of Over = 7
+number_of (Astray number) = number

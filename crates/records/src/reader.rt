@@ -1,7 +1,7 @@
 // The reader of a card stream: how far it has come, and what it holds of the record at hand.
 ghost use Rattle.std.specs.Prelude.{◌≡◌};
 ghost use Rattle.network.specs.Answers.{Decides};
-ghost use Rattle.records.specs.Reader.{Decodes, begun, holding, done, word, awaits, size, size_of, stage_numbered, Misplaced};
+ghost use Rattle.records.specs.Reader.{Decodes, begun, holding, done, word, awaits, size, size_of, stage_numbered, number_of, Misplaced};
 
 use network::sheet::{Sheet, State};
 
@@ -83,8 +83,8 @@ pub enum Stage {
     Ended,
     // The stream was refused: nothing more is read.
     Over,
-    // None of these, where no stream comes: nothing may come, and its end is refused. A stage is made of every number, as docs/PROMISES has it.
-    Astray,
+    // None of these, where no stream comes, with its number: nothing may come, and its end is refused. A stage is made of every number, as docs/PROMISES has it.
+    Astray(u8),
 }
 
 // A stage by its number, of which every number has one.
@@ -101,7 +101,26 @@ impl From<u8> for Stage {
             5 => Stage::Asking,
             6 => Stage::Ended,
             7 => Stage::Over,
-            _ => Stage::Astray,
+            _ => Stage::Astray(number),
+        }
+    }
+}
+
+// The number of a stage: the one that it was made of.
+impl From<Stage> for u8 {
+    ghost from_gives = { λ stage number. number ≡ number_of stage };
+
+    fn from(stage: Stage) -> u8 {
+        match stage {
+            Stage::HeadDue => 0,
+            Stage::NodesDue => 1,
+            Stage::EdgesDue => 2,
+            Stage::SheetDue => 3,
+            Stage::StatesDue => 4,
+            Stage::Asking => 5,
+            Stage::Ended => 6,
+            Stage::Over => 7,
+            Stage::Astray(number) => number,
         }
     }
 }
@@ -118,7 +137,7 @@ impl Stage {
             Stage::SheetDue => matches!(kind, Kind::Sheet | Kind::End),
             Stage::StatesDue => kind == Kind::State,
             Stage::Asking => matches!(kind, Kind::Sheet | Kind::Question | Kind::End),
-            Stage::Ended | Stage::Over | Stage::Astray => false,
+            Stage::Ended | Stage::Over | Stage::Astray(_) => false,
         }
     }
 }
