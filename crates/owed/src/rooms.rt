@@ -1,6 +1,8 @@
 // Every table that a stream needs, at the limits of the scope document.
+ghost use Rattle.std.specs.Prelude.{◌≡◌};
 ghost use Rattle.card.specs.Lent.{lent_of};
 ghost use Rattle.card.specs.Running.{Enough};
+ghost use Rattle.owed.specs.Rooms.{lent_by};
 
 use card::lent::{Lent, NetworkRoom};
 use network::lent::ShortcutRoom;
@@ -50,9 +52,10 @@ impl Rooms {
         line: [0; 32768],
     };
 
-    // As much as the largest network takes.
+    // As much as the largest network takes: the rooms as they stand.
     pub fn lend(&mut self) -> Lent<'_>
-        ensures { Enough (lent_of result) }
+        ensures enough { Enough (lent_of result) }
+        ensures as_they_stand { lent_of result ≡ lent_by self.old }
     {
         let Rooms {
             node_modes,
