@@ -10,7 +10,8 @@ use crate::nodes::first_bad_node;
 use crate::refusal::{Fault, Refusal};
 use crate::transfers::first_bad_transfer;
 
-// Whether the sizes are within the limits, and columns agree in length.
+// Whether the sizes are within the limits, and columns agree in length. In line, as `check_entries` is: where both stand together, its reads of columns
+// that are known to agree need one test of their length.
 #[inline(always)]
 pub fn network_sized(network: &Network) -> bool
     ensures { Decides result (Sized (network_of network.now)) }

@@ -63,7 +63,7 @@ fn shortcut_row(shortcuts: &Shortcuts, i: usize) -> Row
     }
 }
 
-// The row r, an edge, then a shortcut, in line: for the check, which reads every row and its children.
+// The row r: an edge, then a shortcut. In line, for the check of the table, which reads each row and its children.
 #[inline(always)]
 pub(crate) fn row_in_line(network: &Network, shortcuts: &Shortcuts, r: usize) -> Row
     ensures { result ≡ row_read (network_of network.now) (columns_of shortcuts.now) r }
@@ -75,7 +75,7 @@ pub(crate) fn row_in_line(network: &Network, shortcuts: &Shortcuts, r: usize) ->
     shortcut_row(shortcuts, i)
 }
 
-// The row r, by a call: the searches go past most rows by their tail, and their loops stay short.
+// The same for the searches, with no word to the compiler: they go past most rows by their tail, and their loops stay short where this is called.
 pub fn row_at(network: &Network, shortcuts: &Shortcuts, r: usize) -> Row
     ensures { result ≡ row_read (network_of network.now) (columns_of shortcuts.now) r }
 {

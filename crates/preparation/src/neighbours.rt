@@ -100,6 +100,7 @@ fn note_row(
 }
 
 // Notes for each node x the least row from x to v and the least row from v to x, in one pass over the rows.
+// By a call, as `next_turn`.
 #[inline(never)]
 pub(crate) fn find_neighbours(
     network: &Network,

@@ -21,6 +21,7 @@ fn sooner(node_ranks: &[u16], last: Option<usize>, first: Option<usize>, x: usiz
 }
 
 // The node whose turn comes behind the turn of `last`, where one is left.
+// By a call, as `find_neighbours`: in line of the turns its loop would keep what it reads in memory.
 #[inline(never)]
 pub(crate) fn next_turn(node_ranks: &[u16], last: Option<usize>) -> Option<usize>
     ensures { NextTurn node_ranks.now last result }

@@ -55,6 +55,7 @@ fn is_target(sheet: &Sheet, to: usize, u: usize) -> bool
 }
 
 // The search: the place of a target whose label is least.
+// By a call also from a program of one caller: in line its loops would share the registers with all that stands around it.
 #[inline(never)]
 pub(crate) fn run(question: &Question, wide: &mut [u64], narrow: &mut [u32]) -> Option<usize>
     requires { Roomy question.now (length wide.old) (length narrow.old) }
