@@ -24,6 +24,12 @@ start_known S from p = map_dec
     (λ s. (s.here, (s.fresh, (s.known, s.initial))))
     (ℕ_discrete (node_of p) from & ℕ_discrete (phase_of p) 0 & dec_lt (state_of p) S.states & bit_known (entry S (state_of p)).ends 0)
 
+pub target_known : (S : Sheet) (to p : ℕ) → Dec (TargetAt S to p)
+target_known S to p = map_dec
+    (λ h. record { here = h.0; known = h.1.0; final = h.1.1 })
+    (λ t. (t.here, (t.known, t.final)))
+    (ℕ_discrete (node_of p) to & dec_lt (state_of p) S.states & bit_known (entry S (state_of p)).ends 1)
+
 -- a search of those of P
 module _ {N : Network} {ss : List Row} {S : Sheet} {Down : ℕ → ℕ → Type 0} {from to : ℕ} {P : List ℕ → Type 0} (sound : Sound N)
     (table : SoundTable N ss) (inside : from < nodes N) (walks : Walks N ss S Down from to P) {d : ℕ → Weight} {s pr pp : ℕ → ℕ} {k : ℕ}

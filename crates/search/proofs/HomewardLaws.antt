@@ -36,6 +36,9 @@ same_trans s t = record {
   word_same = λ p l. t.word_same p l ∙ s.word_same p l;
 }
 
+pub few_rows : {N : Network} {T : Columns} → Table N T → length N.tails + length T.tails ≤ 4096
+few_rows {T = T} t = omega (arith, t.sound_table.few, table_length T)
+
 -- the row r, of which only the tail k was read
 module _ {N : Network} {T : Columns} (t : Table N T) (r : ℕ) {k : ℕ} (e : k ≡ tail_read N.tails T.tails r) where
   tail_there : k ≡ (row N (table T) r).tail

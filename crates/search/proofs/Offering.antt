@@ -9,13 +9,17 @@ use lib.ListN.{length, get_or, set, length-set}
 use lib.Seq.{get_or-set_same, get_or-set_other}
 use Rattle.network.specs.declared.weight.Weight.{Weight}
 use Rattle.network.specs.Weight.{Lighter}
-use Rattle.network.proofs.WeightLaws.{◌≼◌, ≡-≼, not_lighter-≼, weight-≡}
+use Rattle.network.proofs.WeightLaws.{◌≼◌, ≼_trans, ≡-≼, lighter-≼, not_lighter-≼, weight-≡, lighter_irrefl}
 use Rattle.search.specs.Labels.{label, word, word_by, Offer, declined, taken, SamePlace, NewPlace, Offered}
 
 same_place : {wide narrow : List ℕ} {v : ℕ} → SamePlace wide narrow wide narrow v
 same_place = record { label_same = refl; word_same = refl }
 
 module _ {n : ℕ} {new : Weight} {r low : ℕ} {wide narrow : List ℕ} where
+  -- no place was asked
+  pub offer_none : {A : ℕ → Type 0} → ((v : ℕ) → A v → ⊥) → Offered A n new r low wide narrow wide narrow
+  offer_none e = record { wide_size = refl; narrow_size = refl; each = λ v l. inl same_place; bound = λ v l a. absurd (e v a) }
+
   -- the one place has a label that is no heavier
   pub offer_keep : (p : ℕ) → (Lighter new (label wide narrow p) → ⊥) → Offered (λ v. v ≡ p) n new r low wide narrow wide narrow
   offer_keep p h = record {
@@ -87,3 +91,40 @@ offer_as o f g = record {
   each = λ v l. ⊎_elim (λ s. inl s) (λ t. inr (f v t.0, t.1)) (o.each v l);
   bound = λ v l b. o.bound v l (g v b);
 }
+
+-- one offer after another
+module _ {A B : ℕ → Type 0} {n : ℕ} {new : Weight} {r low : ℕ} {wide narrow wide' narrow' wide'' narrow'' : List ℕ}
+    (o : Offered A n new r low wide narrow wide' narrow') (o' : Offered B n new r low wide' narrow' wide'' narrow'') where
+  join_each : (v : ℕ) → SamePlace wide narrow wide' narrow' v ⊎ (A v × NewPlace new r low wide narrow wide' narrow' v)
+      → SamePlace wide' narrow' wide'' narrow'' v ⊎ (B v × NewPlace new r low wide' narrow' wide'' narrow'' v)
+      → SamePlace wide narrow wide'' narrow'' v ⊎ ((A v ⊎ B v) × NewPlace new r low wide narrow wide'' narrow'' v)
+  join_each v (inl s) (inl t) =
+      inl (record { label_same = t.label_same ∙ s.label_same; word_same = t.word_same ∙ s.word_same })
+  join_each v (inl s) (inr (b, t)) = inr (
+    inr b,
+    record {
+      label_new = t.label_new;
+      lighter = subst (λ (x : Weight). Lighter new x) s.label_same t.lighter;
+      word_new = t.word_new ∙ ap (λ (x : ℕ). word_by x r low) s.word_same;
+    },
+  )
+  join_each v (inr (a, s)) (inl t) = inr (
+    inl a,
+    record {
+      label_new = t.label_same ∙ s.label_new;
+      lighter = s.lighter;
+      word_new = t.word_same ∙ s.word_new;
+    },
+  )
+  join_each v (inr (a, s)) (inr (b, t)) = absurd (lighter_irrefl (subst (λ (x : Weight). Lighter new x) s.label_new t.lighter))
+
+  falls : (v : ℕ) → v < n → label wide'' narrow'' v ≼ label wide' narrow' v
+  falls v l = ⊎_elim (λ t. ≡-≼ t.label_same) (λ t. ≼_trans (≡-≼ t.1.label_new) (lighter-≼ t.1.lighter)) (o'.each v l)
+
+  pub offer_join : Offered (λ v. A v ⊎ B v) n new r low wide narrow wide'' narrow''
+  offer_join = record {
+    wide_size = o'.wide_size ∙ o.wide_size;
+    narrow_size = o'.narrow_size ∙ o.narrow_size;
+    each = λ v l. join_each v (o.each v l) (o'.each v l);
+    bound = λ v l. ⊎_elim (λ a. ≼_trans (falls v l) (o.bound v l a)) (λ b. o'.bound v l b);
+  }

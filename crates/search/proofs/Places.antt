@@ -9,7 +9,7 @@ use Rattle.network.specs.Weight.{◌⊕◌}
 use Rattle.network.specs.Order.{Before}
 use Rattle.network.specs.Network.{Network, nodes, Sound}
 use Rattle.network.specs.declared.sheet.Sheet.{Sheet}
-use Rattle.network.specs.Sheet.{Counted}
+use Rattle.network.specs.Sheet.{MayRide, MayChange, Counted}
 use Rattle.network.specs.Rows.{row, rows, cost, SoundTable}
 use Rattle.network.specs.Journey.{Way, stay, ride, change, along, Stop, stops}
 use Rattle.network.proofs.OrderLaws.{before_dec, before_asym, before_not_core, before_total}
@@ -133,6 +133,16 @@ module _ {Down : ℕ → ℕ → Type 0} {u x f f' : ℕ} where
   phase_sinks : Phase Down u x f f' → f ≡ 1 → Down x u
   phase_sinks (level n a b) e = absurd (omega arith)
   phase_sinks (down d b) e = d
+
+-- the state that a row leads to
+module _ {S : Sheet} {mode q q' : ℕ} where
+  pub shift_rides : Shift S mode q q' → (mode ≡ 0 → ⊥) → MayRide S q mode × (q' ≡ q)
+  shift_rides (riding m c e) n = (c, e)
+  shift_rides (changing m c k) n = absurd (n m)
+
+  pub shift_changes : Shift S mode q q' → mode ≡ 0 → MayChange S q q' × (q' < S.states)
+  shift_changes (riding m c e) z = absurd (m z)
+  shift_changes (changing m c k) z = (c, k)
 
 module _ {N : Network} {ss : List Row} {S : Sheet} {Down : ℕ → ℕ → Type 0} where
   -- where a move leads, so that who has tried these places has tried all
