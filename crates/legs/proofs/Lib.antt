@@ -2,6 +2,7 @@
 pub mod TableLaws
 pub mod OpeningLaws
 -- what the opening functions rest on
+pub mod Accepting
 pub mod RoomParts
 pub mod Legs
 pub mod Openings

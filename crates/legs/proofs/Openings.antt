@@ -1,9 +1,10 @@
 -- When a row may be opened, told by what the code tests; what the opened room holds, and its front.
-use mathlib.Core.Path.{◌≡◌, ap, ◌∙◌}
+use mathlib.Core.Path.{◌≡◌, sym, ap, ◌∙◌}
 use mathlib.Core.List.{List}
 use Prim.Native.Nat.{ℕ, ◌+◌, ◌<◌, ◌≤◌}
 use native.Mathlib.Omega.{arith}
-use lib.ListN.{length}
+use lib.ListN.{length, take}
+use lib.Seq.{length-take-le}
 use borrow.Author.Tests.{le-ltb}
 use Rattle.network.specs.declared.rows.Row.{Row}
 use Rattle.network.specs.Network.{Network, edges}
@@ -15,7 +16,7 @@ use Rattle.network.specs.Answers.{row_read, Decides}
 use Rattle.network.proofs.RowLaws.{table_length, read_row}
 use Rattle.network.proofs.Checking.{passed_table}
 use Rattle.legs.specs.Opening.{opened}
-use Rattle.legs.specs.Opened.{Openable, OpenedInto, opens}
+use Rattle.legs.specs.Opened.{Openable, OpenedInto, opens, refuses}
 use Rattle.legs.specs.Steps.{legs, RowFits, Written}
 use Rattle.legs.proofs.OpeningLaws.{opened_length}
 use Rattle.legs.proofs.Legs.{opened_legs, table_falling}
@@ -72,3 +73,9 @@ module _ {N : Network} {T : Columns} {r : ℕ} where
   opened_into o w =
       let z = opened_written o.table_accepted.0.even N r w in
       opens o (z.counted ∙ openable_length o) z.holds
+
+-- the front that was written
+pub front_length : {N : Network} {T : Columns} {r n : ℕ} {room room' : List ℕ} → OpenedInto N T r room n room' → length room' ≡ length room
+    → n ≡ length (take n room')
+front_length {n = n} {room' = room'} (opens o c h) k = sym (length-take-le n room' (omega (arith, c, o.room_enough)))
+front_length {n = n} {room' = room'} (refuses o c h) k = sym (length-take-le n room' (omega arith))
