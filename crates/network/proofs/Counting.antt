@@ -1,7 +1,7 @@
--- Counting by marks: how many of the numbers below `k` still wait, those whose mark in `s` is not 0. It is a loop's measure, and the
--- pigeonhole.
+-- Counting by marks: how many of the numbers below `k` still wait, those whose mark in `s` is not 0. It is a loop's measure, a bound on how many
+-- turns it has had, and the pigeonhole.
 use mathlib.Core.Path.{◌≡◌, refl, sym, ap, ap₂, ◌∙◌}
-use Prim.Native.Nat.{ℕ, zero, suc, ◌+◌, ◌<◌}
+use Prim.Native.Nat.{ℕ, zero, suc, ◌+◌, ◌<◌, ◌≤◌}
 use native.Mathlib.Omega.{arith}
 use native.Mathlib.Decide.{ℕ_discrete}
 
@@ -13,6 +13,11 @@ pub waiting : (ℕ → ℕ) → ℕ → ℕ
 waiting s zero = 0
 waiting s (suc k) = bit (s k) + waiting s k
 
+bit_le : (n : ℕ) → bit n ≤ 1
+unfolding bit
+bit_le zero = omega arith
+bit_le (suc n) = omega arith
+
 bit_some : (n : ℕ) → (n ≡ 0 → ⊥) → bit n ≡ 1
 unfolding bit
 bit_some zero h = absurd (h refl)
@@ -21,6 +26,11 @@ bit_some (suc n) h = refl
 bit_none : (n : ℕ) → n ≡ 0 → bit n ≡ 0
 unfolding bit
 bit_none n e = ap bit e
+
+pub waiting_le : (s : ℕ → ℕ) (k : ℕ) → waiting s k ≤ k
+unfolding waiting
+waiting_le s zero = omega arith
+waiting_le s (suc k) = omega (arith, waiting_le s k, bit_le (s k))
 
 pub waiting_same : (s s' : ℕ → ℕ) (k : ℕ) → ((v : ℕ) → v < k → s' v ≡ s v) → waiting s' k ≡ waiting s k
 unfolding waiting
