@@ -5,7 +5,7 @@ use Prim.Native.Nat.{ℕ, suc, ◌+◌, ◌-◌, ◌<◌, ◌≤◌, min}
 use native.Mathlib.Omega.{arith}
 use native.Mathlib.Decide.{ℕ_discrete}
 use lib.ListN.{length, get_or, take, set, replicate, length-take, length-set}
-use lib.Seq.{take-append_seam, take-suc-set, get_or-take, get_or-set_same, get_or-set_other, ext_get_or}
+use lib.Seq.{take-append_seam, take-set-le, take-suc-set, get_or-take, get_or-set_same, get_or-set_other, ext_get_or}
 use Rattle.network.specs.declared.rows.Row.{Row}
 use Rattle.network.specs.Rows.{Columns, Even, no_row, shortcut, table}
 use Rattle.network.proofs.RowLaws.{row-≡, table_length, table_at}
@@ -110,6 +110,17 @@ table_put {T} v i x = ext_get_or no_row (table (put_row T i x)) (set (table T) i
             ∙ sym (get_or-set_same (table T) i x no_row (omega (arith, b, table_length T)))
             ∙ ap (λ (k : ℕ). get_or (set (table T) i x) k no_row) (sym e)
         go (no n) = shortcut_beside T i j x n ∙ sym (table_at v j) ∙ sym (get_or-set_other (table T) i j x no_row n)
+
+-- the rows in front of the written one stay
+pub front_put : (T : Columns) (k : ℕ) (x : Row) → front_columns k (put_row T k x) ≡ front_columns k T
+front_put T k x = columns-≡
+    (take-set-le k T.tails k x.tail (omega arith))
+    (take-set-le k T.heads k x.head (omega arith))
+    (take-set-le k T.modes k x.mode (omega arith))
+    (take-set-le k T.lengths k x.length (omega arith))
+    (take-set-le k T.counts k x.count (omega arith))
+    (take-set-le k T.firsts k x.first (omega arith))
+    (take-set-le k T.seconds k x.second (omega arith))
 
 -- and it follows them
 pub front_more : {T : Columns} → Even T → (k : ℕ) (x : Row) → k < length T.tails

@@ -95,6 +95,22 @@ turning_start e h known = record {
   same_rooms = record { wide_size = refl; narrow_size = refl };
 }
 
+-- the turn goes on over the rows as they are lent now
+pub turn_on : (N : Network) (v stood limit : ℕ) (T₀ T : Columns) (wide₀ narrow₀ wide narrow : List ℕ) (at u : ℕ)
+    → InTurn N (front_columns stood T₀) v (length wide₀) (length narrow₀) → Turning N v stood limit T₀ T wide₀ narrow₀ wide narrow at u
+    → InTurn N (front_columns stood T) v (length wide) (length narrow)
+turn_on N v stood limit T₀ T wide₀ narrow₀ wide narrow at u i t = record {
+  sound = i.sound;
+  even = front_even stood t.appends.same_size.even;
+  sound_table = subst (λ U. SoundTable N (table U)) (sym t.stood_same) i.sound_table;
+  is_node = i.is_node;
+  not_core = i.not_core;
+  roomy = record {
+    wide_enough = omega (arith, i.roomy.wide_enough, t.same_rooms.wide_size);
+    narrow_enough = omega (arith, i.roomy.narrow_enough, t.same_rooms.narrow_size);
+  };
+}
+
 module _ {N : Network} {v stood limit : ℕ} {T₀ T T' : Columns} {wide₀ narrow₀ wide narrow wide' narrow' : List ℕ} {at u : ℕ}
     (t : Turning N v stood limit T₀ T wide₀ narrow₀ wide narrow at u) where
   module _ {made : Option ℕ} (f : TurnFrom N (table (front_columns stood T)) v u limit at T T' wide narrow wide' narrow' made) where
