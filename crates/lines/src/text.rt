@@ -95,7 +95,7 @@ impl Pen<'_> {
         self.put_number(seconds);
         self.put_spaced(count as u64);
         self.put_legs(legs);
-        self.put(b"\n");
+        self.put(b"\n"); // no space behind the last leg
     }
 
     #[tactic(auto, using(crate::proofs::Lines::length_refusal))]
