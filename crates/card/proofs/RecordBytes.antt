@@ -17,6 +17,9 @@ high_byte high low h = omega arith
 low_byte : (high low : ℕ) → low < 256 → word high low % 256 ≡ low
 low_byte high low h = omega arith
 
+pub word_below : (high low : ℕ) → high < 256 → low < 256 → word high low < 65536
+word_below high low h l = omega arith
+
 -- n entries from i on
 abbrev pub entries : (n i : ℕ) → List ℕ → List ℕ
 entries zero i l = []
