@@ -29,14 +29,14 @@ checked_broken : {rules : List Rule} {a : Answer} → Singles rules → Checked 
 checked_broken s (accepts e p) n q = n (ap (λ x. x.number) e)
 checked_broken {rules} s (refuses {number = m} {place = p} e r) n q = refused_passed rules s m p r q
 
--- `check_network`
+-- of an answer about a network, as `journeys_check` gives it
 pub network_kept : {N : Network} {a : Answer} → Checked (network_order N) a → a.number ≡ 0 → Passed (network_order N)
 network_kept = checked_kept ((λ e. omega arith), ((λ e. omega arith), ((λ e. omega arith), ((λ e. omega arith), tt))))
 
 pub network_broken : {N : Network} {a : Answer} → Checked (network_order N) a → (a.number ≡ 0 → ⊥) → Passed (network_order N) → ⊥
 network_broken {N} = checked_broken (network_singles N)
 
--- `check_rows`
+-- of an answer about its rows
 pub rows_kept : {N : Network} {T : Columns} {a : Answer} → Checked (rows_order N T) a → a.number ≡ 0 → Passed (rows_order N T)
 rows_kept = checked_kept ((λ e. omega arith), ((λ e. omega arith), tt))
 
