@@ -9,6 +9,7 @@ use lib.ListN.{length, get_or, set, length-set}
 use lib.Seq.{get_or-set_same, get_or-set_other}
 use Rattle.network.specs.declared.weight.Weight.{Weight}
 use Rattle.network.specs.declared.rows.Row.{Row}
+use Rattle.network.specs.Network.{edges}
 use Rattle.network.specs.Weight.{zero_weight, ◌⊕◌, Lighter, Sum}
 use Rattle.network.specs.Rows.{cost}
 use Rattle.network.specs.Answers.{tail_read}
@@ -187,6 +188,18 @@ module _ {Q : Turn} {u : ℕ} (w : Weight) {r x : ℕ} {new : Weight} (wide narr
       subst₂ (λ y z. Attempted Q u w (λ s y. s ≡ r) wide narrow y z) (sym a) (sym b) (offered_declined n)
   attempted_offer (taken l h) = offered_taken l h
 
+-- a row whose tail, read alone, is another node
+pub attempt_elsewhere : {Q : Turn} {u : ℕ} {w : Weight} {r : ℕ} (wide narrow : List ℕ) {t : ℕ} → t ≡ tail_read Q.roads.tails Q.shortcuts.tails r
+    → (t ≡ u → ⊥) → Attempted Q u w (λ s y. s ≡ r) wide narrow wide narrow
+attempt_elsewhere {Q} {u} {r = r} wide narrow et n = record {
+  rest_same = rest_refl;
+  relaxed = record {
+    lower = λ v l. inl record { label = refl; by_row = refl; by_place = refl };
+    bound = λ s v a e. absurd (n (et ∙ tail_read_row Q.roads Q.shortcuts r ∙ ap (λ z. (ridden Q z).tail) (sym e) ∙ a.leaves));
+  };
+  marks = λ v l. refl;
+}
+
 -- what becomes of the row x, which is row r, tried from u
 module _ {Q : Turn} {u : ℕ} {w : Weight} {r : ℕ} (wide narrow : List ℕ) {x : Row} (ex : x ≡ ridden Q r) where
   -- it is a ride
@@ -208,27 +221,45 @@ module _ {Q : Turn} {u : ℕ} {w : Weight} {r : ℕ} (wide narrow : List ℕ) {x
       room
       (sum_held (subst (λ z. Sum w z new) (ec ∙ ap cost ex) sum) (light.each r))
 
--- the rows below r have been tried
-pub record TryingRides (Q : Turn) (u : ℕ) (w : Weight) (wide₀ narrow₀ wide narrow : List ℕ) (end r : ℕ) : Type 0 where
-  pub in_order : r ≤ end
-  pub attempted : Attempted Q u w (λ s x. s < r) wide₀ narrow₀ wide narrow
+-- some rows tried, and then others
+pub attempted_join : {Q : Turn} {u : ℕ} {w : Weight} {T T' T'' : ℕ → ℕ → Type 0} {wide narrow wide' narrow' wide'' narrow'' : List ℕ}
+    → Attempted Q u w T wide narrow wide' narrow' → Attempted Q u w T' wide' narrow' wide'' narrow'' → ((s x : ℕ) → T'' s x → T s x ⊎ T' s x)
+    → Attempted Q u w T'' wide narrow wide'' narrow''
+attempted_join {Q} a b either = record {
+  rest_same = rest_trans a.rest_same b.rest_same;
+  relaxed = relax_only (relax_join (all_rides_laws Q) a.relaxed b.relaxed) (λ s v k m. either s v m);
+  marks = λ v k. b.marks v k ∙ a.marks v k;
+}
 
-module _ {Q : Turn} {u : ℕ} {w : Weight} {wide₀ narrow₀ wide narrow : List ℕ} {end r : ℕ}
-    (t : TryingRides Q u w wide₀ narrow₀ wide narrow end r) where
-  pub rides_more : {wide' narrow' : List ℕ} → r < end → Attempted Q u w (λ s x. s ≡ r) wide narrow wide' narrow'
-      → TryingRides Q u w wide₀ narrow₀ wide' narrow' end (r + 1)
+-- of the rows from `first` on, i have been tried
+pub record TryingRides (Q : Turn) (u : ℕ) (w : Weight) (wide₀ narrow₀ wide narrow : List ℕ) (first end i : ℕ) : Type 0 where
+  pub in_order : i ≤ end
+  pub attempted : Attempted Q u w (λ s x. (first ≤ s) × (s < first + i)) wide₀ narrow₀ wide narrow
+
+module _ {Q : Turn} {u : ℕ} {w : Weight} {wide₀ narrow₀ wide narrow : List ℕ} {first end i : ℕ}
+    (t : TryingRides Q u w wide₀ narrow₀ wide narrow first end i) where
+  pub rides_more : {wide' narrow' : List ℕ} → i < end → Attempted Q u w (λ s x. s ≡ first + i) wide narrow wide' narrow'
+      → TryingRides Q u w wide₀ narrow₀ wide' narrow' first end (i + 1)
   rides_more l a = record {
     in_order = omega arith;
-    attempted = record {
-      rest_same = rest_trans t.attempted.rest_same a.rest_same;
-      relaxed = relax_only (relax_join (all_rides_laws Q) t.attempted.relaxed a.relaxed) (λ s v k m. pick s (dec_lt s r) m);
-      marks = λ v k. a.marks v k ∙ t.attempted.marks v k;
-    };
+    attempted = attempted_join t.attempted a (λ s x m. either s (dec_lt s (first + i)) m);
   }
     where
-      pick : (s : ℕ) → Dec (s < r) → s < r + 1 → (s < r) ⊎ (s ≡ r)
-      pick s (yes k) m = inl k
-      pick s (no k) m = inr (omega arith)
+      either : (s : ℕ) → Dec (s < first + i) → (first ≤ s) × (s < first + (i + 1)) → ((first ≤ s) × (s < first + i)) ⊎ (s ≡ first + i)
+      either s (yes k) m = inl (m.0, k)
+      either s (no k) m = inr (omega (arith, m.0, m.1, k))
+
+-- the edges tried, and then the shortcuts
+pub rides_joined : {Q : Turn} {u : ℕ} {w : Weight} {wide narrow wide' narrow' wide'' narrow'' : List ℕ}
+    → Attempted Q u w (λ s x. (0 ≤ s) × (s < 0 + edges Q.roads)) wide narrow wide' narrow'
+    → Attempted Q u w (λ s x. (edges Q.roads ≤ s) × (s < row_count Q)) wide' narrow' wide'' narrow''
+    → Attempted Q u w (λ s x. s < row_count Q) wide narrow wide'' narrow''
+rides_joined {Q} a b = attempted_join a b (λ s x m. either s (dec_lt s (edges Q.roads)) m)
+  where
+    either : (s : ℕ) → Dec (s < edges Q.roads) → s < row_count Q
+        → ((0 ≤ s) × (s < 0 + edges Q.roads)) ⊎ ((edges Q.roads ≤ s) × (s < row_count Q))
+    either s (yes k) m = inl (omega arith, omega (arith, k))
+    either s (no k) m = inr (omega (arith, k), m)
 
 -- a node is settled, and then every row is tried from it
 module _ (narrow : List ℕ) {narrow₁ : List ℕ} (u : ℕ) (e : narrow₁ ≡ set narrow (2 * u + 1) (word narrow u / 2 * 2)) where

@@ -3,7 +3,7 @@
 // other things of other rows, so that one function for both would have two contracts. `Spacious` is of the rooms, which stay side by side (`labels`),
 // and `Addable` of a weight that is read from them: neither has a struct to stand in.
 ghost use Rattle.std.specs.Prelude.{◌≡◌, ℕ, ◌+◌, ◌*◌, ◌<◌, ◌≤◌, length, get_or};
-ghost use Rattle.network.specs.Answers.{Decides};
+ghost use Rattle.network.specs.Answers.{Decides, tail_read};
 ghost use Rattle.search.specs.Labels.{label, mark};
 ghost use Rattle.search.specs.Witness.{turn_of, node_count, row_count, Open, WitnessFits, Witnessed};
 ghost use Rattle.search.specs.WitnessSteps.{Narrow, Addable, Passed, Emptied, Kept, Closed, Spacious, Opened, Attempted, Departed, Spread};
@@ -11,9 +11,10 @@ ghost use Rattle.search.specs.WitnessSteps.{Narrow, Addable, Passed, Emptied, Ke
 use crate::labels::{Step, label_at, settle, waits, write};
 use crate::moves::offer;
 use crate::pick::pick;
+use columns::at;
 use network::lent::{Network, Shortcuts};
 use network::order::contracted_before;
-use network::rows::{row_at, tail_at};
+use network::rows::row_at;
 use network::weight::Weight;
 
 // What a search is asked of: the columns, whatever they hold, the node whose turn it is, and whether paths must avoid it.
@@ -81,16 +82,16 @@ fn open(turn: &Turn, x: usize) -> bool
         && (x != turn.node || !turn.around)
 }
 
-// Tries the row r from the node u, labelled w.
+// Tries the row r, which leads from the node u, labelled w. A call, and not in line: the loop over the rows, which goes past nearly all of them, is to
+// have the registers to itself.
+#[inline(never)]
 fn attempt(turn: &Turn, u: usize, w: Weight, r: usize, wide: &mut [u64], narrow: &mut [u32])
+    requires from { tail_read turn.now.network.tails.now turn.now.shortcuts.tails.now r ≡ u }
     requires spacious { Spacious (turn_of turn.now) (length wide.old) (length narrow.old) }
     requires r_bound { r < row_count (turn_of turn.now) }
     requires addable { Addable (turn_of turn.now) w }
     ensures { Attempted (turn_of turn.now) u w (λ s x. s ≡ r) wide.old narrow.old wide.new narrow.new }
 {
-    if tail_at(&turn.network, &turn.shortcuts, r) as usize != u {
-        return;
-    }
     let row = row_at(&turn.network, &turn.shortcuts, r);
     let head = row.head as usize;
     if row.mode == 0 || !open(turn, row.tail as usize) || !open(turn, head) {
@@ -105,15 +106,38 @@ fn attempt(turn: &Turn, u: usize, w: Weight, r: usize, wide: &mut [u64], narrow:
     offer(wide, narrow, head, step);
 }
 
-// Tries every row from the node u, labelled w.
+// Tries the rows that lead from the node u, labelled w, among those whose tails are lent, the row `first` and on. Of any other row it reads its tail alone.
+fn try_column(
+    turn: &Turn,
+    tails: &[u16],
+    first: usize,
+    u: usize,
+    w: Weight,
+    wide: &mut [u64],
+    narrow: &mut [u32],
+)
+    requires column { (i : ℕ) → i < length tails.now → tail_read turn.now.network.tails.now turn.now.shortcuts.tails.now (first + i) ≡ get_or tails.now i 0 }
+    requires spacious { Spacious (turn_of turn.now) (length wide.old) (length narrow.old) }
+    requires in_table { first + length tails.now ≤ row_count (turn_of turn.now) }
+    requires addable { Addable (turn_of turn.now) w }
+    ensures { Attempted (turn_of turn.now) u w (λ s x. (first ≤ s) × (s < first + length tails.now)) wide.old narrow.old wide.new narrow.new }
+{
+    for i in 0..tails.len() {
+        if at(tails, i) as usize == u {
+            attempt(turn, u, w, first + i, wide, narrow);
+        }
+    }
+}
+
+// Tries every row from the node u, labelled w: the edges, then the shortcuts.
 fn try_rows(turn: &Turn, u: usize, w: Weight, wide: &mut [u64], narrow: &mut [u32])
     requires spacious { Spacious (turn_of turn.now) (length wide.old) (length narrow.old) }
     requires addable { Addable (turn_of turn.now) w }
     ensures { Attempted (turn_of turn.now) u w (λ s x. s < row_count (turn_of turn.now)) wide.old narrow.old wide.new narrow.new }
 {
-    for r in 0..turn.network.tails.len() + turn.shortcuts.tails.len() {
-        attempt(turn, u, w, r, wide, narrow);
-    }
+    let edges = turn.network.tails.len();
+    try_column(turn, turn.network.tails, 0, u, w, wide, narrow);
+    try_column(turn, turn.shortcuts.tails, edges, u, w, wide, narrow);
 }
 
 // Settles the node u and tries every row from it.
@@ -143,8 +167,6 @@ fn spread(turn: &Turn, from: usize, bound: Weight, wide: &mut [u64], narrow: &mu
     requires narrow { Narrow (turn_of turn.now) }
     ensures { Spread (turn_of turn.now) from bound wide.old narrow.old wide.new narrow.new }
 {
-    // A copy of its own, which no write to the rooms can change: what it refers to is read once.
-    let turn = *turn;
     let places = turn.network.node_ranks.len();
     begin(wide, narrow, places, from);
     while let Some(u) = pick(wide, narrow, places) {
@@ -152,7 +174,7 @@ fn spread(turn: &Turn, from: usize, bound: Weight, wide: &mut [u64], narrow: &mu
         if bound.lighter(w) {
             return;
         }
-        leave(&turn, u, wide, narrow);
+        leave(turn, u, wide, narrow);
     }
 }
 

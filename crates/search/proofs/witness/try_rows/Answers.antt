@@ -1,6 +1,6 @@
 -- `search::witness::try_rows` tries every row. Assumes nothing.
-use Rattle.search.proofs.WitnessLaws.{rides_more}
+use Rattle.search.proofs.WitnessLaws.{rides_joined}
 use Rattle.search.proofs.witness.try_rows.Goals as goal
 
-pub loop-r-preserved : goal.loop-r-preserved
-loop-r-preserved c = rides_more c.loop-r.invariant c.loop-r-test.true c.attempt.ensures
+pub returns : goal.returns
+returns c = rides_joined c.try_column.ensures c.try_column-2.ensures
