@@ -1,8 +1,8 @@
 // How labels stand in the work rooms; `homeward` has the bits of a hint besides, and `engine` the start of all. specs/Labels says the same to the proofs.
 // Mark, row, state and phase of a place share one number: the rooms are lent, and no larger.
 // The rooms go side by side, as they are lent: a struct of both would have every contract say that its fields are still the caller's.
-// `p < 8192` keeps the sums in range. A type for a place would be opened again at each of them, and is no plainer.
-ghost use Rattle.std.specs.Prelude.{◌≡◌, ◌+◌, ◌*◌, ◌/◌, ◌%◌, ◌<◌, ◌≤◌, length, get_or, set};
+// `p < 8192` keeps the sums in range, or that the place lies inside the rooms. A type for a place would be opened again at each sum, and is no plainer.
+ghost use Rattle.std.specs.Prelude.{◌≡◌, ◌+◌, ◌*◌, ◌/◌, ◌%◌, ◌<◌, length, set};
 ghost use Rattle.network.specs.Answers.{Decides};
 ghost use Rattle.search.specs.Labels.{label, word, mark, row_before, word_by, Written};
 
@@ -35,6 +35,25 @@ pub(crate) fn waits(narrow: &[u32], p: usize) -> bool
     ensures { Decides result (mark narrow.now p ≡ 1) }
 {
     at(narrow, 2 * p + 1) % 2 == 1
+}
+
+// The label of a place that lies inside the rooms, with no test of how long they are: `pick` goes through every place.
+pub(crate) fn label_inside(wide: &[u64], narrow: &[u32], p: usize) -> Weight
+    requires { (p < length wide.now) × (2 * p < length narrow.now) }
+    ensures { result ≡ label wide.now narrow.now p }
+{
+    Weight {
+        time: wide[p],
+        edges: narrow[2 * p],
+    }
+}
+
+// Whether such a place waits, likewise.
+pub(crate) fn waits_inside(narrow: &[u32], p: usize) -> bool
+    requires { 2 * p + 1 < length narrow.now }
+    ensures { Decides result (mark narrow.now p ≡ 1) }
+{
+    narrow[2 * p + 1] % 2 == 1
 }
 
 // The row that led to the place.

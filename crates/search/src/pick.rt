@@ -1,9 +1,9 @@
 // The lightest waiting place, by reading them all.
-ghost use Rattle.std.specs.Prelude.{◌<◌, ◌≤◌};
+ghost use Rattle.std.specs.Prelude.{◌+◌, ◌*◌, ◌<◌, ◌≤◌, length};
 ghost use Rattle.search.specs.Labels.{label, mark};
 ghost use Rattle.search.specs.Steps.{Looked, Picked};
 
-use crate::labels::{label_at, waits};
+use crate::labels::{label_inside, waits_inside};
 use network::weight::Weight;
 
 // A waiting place and its label.
@@ -15,13 +15,13 @@ struct Choice {
 
 // The choice so far, or the place p where it waits and is lighter.
 fn look(wide: &[u64], narrow: &[u32], p: usize, so_far: Option<Choice>) -> Option<Choice>
-    requires { p < 8192 }
+    requires { (p < length wide.now) × (2 * p + 1 < length narrow.now) }
     ensures { Looked (label wide.now narrow.now) (mark narrow.now) p so_far result }
 {
-    if !waits(narrow, p) {
+    if !waits_inside(narrow, p) {
         return so_far;
     }
-    let label = label_at(wide, narrow, p);
+    let label = label_inside(wide, narrow, p);
     if label.lighter(so_far.map_or(Weight::NONE, |choice| choice.label)) {
         return Some(Choice { place: p, label });
     }
@@ -30,7 +30,7 @@ fn look(wide: &[u64], narrow: &[u32], p: usize, so_far: Option<Choice>) -> Optio
 
 // A lightest waiting place that has a label.
 pub(crate) fn pick(wide: &[u64], narrow: &[u32], places: usize) -> Option<usize>
-    requires { places ≤ 8192 }
+    requires { (places ≤ length wide.now) × (2 * places ≤ length narrow.now) }
     ensures { Picked places (label wide.now narrow.now) (mark narrow.now) result }
 {
     let mut so_far = None;
