@@ -1,7 +1,7 @@
 // How labels stand in the work rooms; `homeward` has the bits of a hint besides, and `engine` the start of all. specs/Labels says the same to the proofs.
 // Mark, row, state and phase of a place share one number: the rooms are lent, and no larger.
 // The rooms go side by side, as they are lent: a struct of both would have every contract say that its fields are still the caller's.
-// `p < 8192` keeps the sums in range, or that the place lies inside the rooms. A type for a place would be opened again at each sum, and is no plainer.
+// `p < 8192`, or that the place lies inside the rooms, keeps the sums in range. A type for a place would be opened again at each sum, and is no plainer.
 ghost use Rattle.std.specs.Prelude.{◌≡◌, ◌+◌, ◌*◌, ◌/◌, ◌%◌, ◌<◌, length, set};
 ghost use Rattle.network.specs.Answers.{Decides};
 ghost use Rattle.search.specs.Labels.{label, word, mark, row_before, word_by, Written};
@@ -29,14 +29,6 @@ pub(crate) fn label_at(wide: &[u64], narrow: &[u32], p: usize) -> Weight
     }
 }
 
-// Whether the place waits: it is not settled.
-pub(crate) fn waits(narrow: &[u32], p: usize) -> bool
-    requires { p < 8192 }
-    ensures { Decides result (mark narrow.now p ≡ 1) }
-{
-    at(narrow, 2 * p + 1) % 2 == 1
-}
-
 // The label of a place that lies inside the rooms, with no test of how long they are: `pick` goes through every place.
 pub(crate) fn label_inside(wide: &[u64], narrow: &[u32], p: usize) -> Weight
     requires { (p < length wide.now) × (2 * p < length narrow.now) }
@@ -48,8 +40,8 @@ pub(crate) fn label_inside(wide: &[u64], narrow: &[u32], p: usize) -> Weight
     }
 }
 
-// Whether such a place waits, likewise.
-pub(crate) fn waits_inside(narrow: &[u32], p: usize) -> bool
+// Whether such a place waits, likewise: it is not settled.
+pub(crate) fn waits(narrow: &[u32], p: usize) -> bool
     requires { 2 * p + 1 < length narrow.now }
     ensures { Decides result (mark narrow.now p ≡ 1) }
 {

@@ -3,7 +3,7 @@ ghost use Rattle.std.specs.Prelude.{◌+◌, ◌*◌, ◌<◌, ◌≤◌, length
 ghost use Rattle.search.specs.Labels.{label, mark};
 ghost use Rattle.search.specs.Steps.{Looked, Picked};
 
-use crate::labels::{label_inside, waits_inside};
+use crate::labels::{label_inside, waits};
 use network::weight::Weight;
 
 // A waiting place and its label.
@@ -18,7 +18,7 @@ fn look(wide: &[u64], narrow: &[u32], p: usize, so_far: Option<Choice>) -> Optio
     requires { (p < length wide.now) × (2 * p + 1 < length narrow.now) }
     ensures { Looked (label wide.now narrow.now) (mark narrow.now) p so_far result }
 {
-    if !waits_inside(narrow, p) {
+    if !waits(narrow, p) {
         return so_far;
     }
     let label = label_inside(wide, narrow, p);

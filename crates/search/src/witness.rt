@@ -8,10 +8,9 @@ ghost use Rattle.search.specs.Labels.{label, mark};
 ghost use Rattle.search.specs.Witness.{turn_of, node_count, row_count, Open, WitnessFits, Witnessed};
 ghost use Rattle.search.specs.WitnessSteps.{Narrow, Addable, Passed, Emptied, Kept, Closed, Spacious, Opened, Attempted, Departed, Spread};
 
-use crate::labels::{Step, label_at, settle, waits, write};
+use crate::labels::{Step, label_at, label_inside, settle, waits, write};
 use crate::moves::offer;
 use crate::pick::pick;
-use columns::at;
 use network::lent::{Network, Shortcuts};
 use network::order::contracted_before;
 use network::rows::row_at;
@@ -53,13 +52,13 @@ fn empty(wide: &mut [u64], narrow: &mut [u32], nodes: usize)
 
 // The label that is told of the place p in the end: none where it still waits.
 fn kept(wide: &[u64], narrow: &[u32], p: usize) -> Weight
-    requires { p < 8192 }
+    requires { (p < length wide.now) × (2 * p + 1 < length narrow.now) }
     ensures { Kept (mark narrow.now p) (label wide.now narrow.now p) result }
 {
     if waits(narrow, p) {
         return Weight::NONE;
     }
-    label_at(wide, narrow, p)
+    label_inside(wide, narrow, p)
 }
 
 // Only what is told stays in the rooms.
@@ -123,7 +122,7 @@ fn try_column(
     ensures { Attempted (turn_of turn.now) u w (λ s x. (first ≤ s) × (s < first + length tails.now)) wide.old narrow.old wide.new narrow.new }
 {
     for i in 0..tails.len() {
-        if at(tails, i) as usize == u {
+        if tails[i] as usize == u {
             attempt(turn, u, w, first + i, wide, narrow);
         }
     }
